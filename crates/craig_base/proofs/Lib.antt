@@ -1,0 +1,5 @@
+pub mod ArenaLemmas
+pub mod ClausesLemmas
+pub mod CountingLemmas
+pub mod LiteralsLemmas
+mod NamesLemmas

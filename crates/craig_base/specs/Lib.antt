@@ -1,0 +1,9 @@
+pub mod Arena
+pub mod ArenaTable
+pub mod Clauses
+pub mod Counting
+pub mod LemmaRule
+pub mod LiteralCodes
+pub mod Literals
+pub mod Names
+pub mod NormalForms

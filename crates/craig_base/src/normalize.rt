@@ -1,0 +1,82 @@
+//! The normal form of a list of literals: sorted and without repeats, or a tautology.
+ghost use Rattle.std.specs.Prelude.{◌≢◌, ◌↔◌, ◌+◌, ◌<◌, ℕ, IfOk, length};
+ghost use Rattle.std.specs.Bool.{OnTrue, OnFalse};
+ghost use Rattle.std.specs.List.{AllAdjacentBelow};
+ghost use Rattle.craig_base.specs.Clauses.{IsTautology, IsAscending, IsNormal, SameMembers, SameVariableAt};
+ghost use Rattle.craig_base.specs.NormalForms.{IsTautologyAnswer, OnClause};
+
+use crate::{Lit, Lits, Normal};
+use std::alloc::{AllocError, Global};
+
+// Whether two neighbours are of one variable.
+fn has_equal_neighbours(literals: &[Lit]) -> bool
+    ensures found { OnTrue result ((k : ℕ) × (k + 1 < length literals.now) × SameVariableAt literals.now k) }
+    ensures none { OnFalse result (AllAdjacentBelow (λ l m. l.var ≢ m.var) literals.now (length literals.now)) }
+{
+    literals
+        .windows(2)
+        .any(|pair| pair[0].var() == pair[1].var())
+}
+
+// The literals in order, each once.
+fn sorted_literals(alloc: Global, lits: &[Lit]) -> Result<Lits, AllocError>
+    ensures members { IfOk result (SameMembers lits.now) }
+    ensures ascending { IfOk result IsAscending }
+{
+    let mut literals = Vec::from_slice(alloc, lits)?;
+    literals.sort_unstable();
+    literals.dedup();
+    Ok(Lits::from_vec(literals))
+}
+
+/// The normal form of a list of literals, in time O(n log n). The list may be in any order, with repeats.
+/// The only error is want of memory.
+pub fn normal(alloc: Global, lits: &[Lit]) -> Result<Normal, AllocError>
+    ensures tautology { IfOk result (λ n. IsTautologyAnswer n ↔ IsTautology lits.now) }
+    ensures members { IfOk result (OnClause (SameMembers lits.now)) }
+    ensures ascending { IfOk result (OnClause IsAscending) }
+    ensures is_normal { IfOk result (OnClause IsNormal) }
+{
+    let literals = sorted_literals(alloc, lits)?;
+    if has_equal_neighbours(literals.as_slice()) {
+        return Ok(Normal::Tautology);
+    }
+    Ok(Normal::Clause(literals))
+}
+
+#[cfg(test)]
+mod tests {
+    use super::*;
+    use crate::Var;
+    use std::test::Fail;
+
+    // Whether the answer is the clause of these literals, or a tautology where none are wanted.
+    fn is_answer(answer: &Normal, wanted: Option<&[Lit]>) -> bool {
+        match (answer, wanted) {
+            (Normal::Clause(literals), Some(wanted)) => literals.as_slice() == wanted,
+            (Normal::Tautology, None) => true,
+            _ => false,
+        }
+    }
+
+    #[test]
+    fn normal_forms_of_short_lists(rt: HostRuntime) -> Result<(), Fail> {
+        let v1 = Lit::new(Var(1), false);
+        let n1 = Lit::new(Var(1), true);
+        let v2 = Lit::new(Var(2), false);
+        let n2 = Lit::new(Var(2), true);
+        let none = &[v1][..0];
+        for (lits, wanted) in [
+            ([v2, n1, v2].as_slice(), Some([n1, v2].as_slice())),
+            ([v1, n1].as_slice(), None),
+            (none, Some(none)),
+            ([v1, v1, v1].as_slice(), Some([v1].as_slice())),
+            ([n2, v1, n2, v2].as_slice(), None),
+            ([n2, n1].as_slice(), Some([n1, n2].as_slice())),
+        ] {
+            let answer = normal(rt.alloc(), lits)?;
+            assert!(rt; is_answer(&answer, wanted));
+        }
+        Ok(())
+    }
+}

@@ -1,0 +1,7 @@
+-- A reader or a writer of std with a count.
+use Rattle.std.specs.Prelude.{ℕ}
+
+-- the reader or writer, and the number of its faults so far
+pub record Counted (A : Type 0) : Type 0 where
+  pub inner : A
+  pub faults : ℕ

@@ -1,0 +1,160 @@
+//! A sink in memory, which fails at the calls that it is given and where its room is full.
+
+ghost use Rattle.std.specs.Prelude.{◌≡◌, ◌↔◌, ◌⊎◌, ◌<◌, ◌≤◌, ◌^◌, ◌-◌, ◌++◌, [], Some, length, take, min, vec_len, vec_capacity, IsErr, IfOk, OnErr, Contains};
+ghost use Rattle.craig_io.specs.Faults.{Rose, raised};
+ghost use Rattle.craig_io.specs.Told.{StaysTold};
+ghost use Rattle.craig_io.specs.Sink.{AppendsFirst};
+ghost use Rattle.craig_io.specs.Calls.{CallsMade, call_counted, fault_counted};
+ghost use Rattle.craig_io.specs.MemSink.{MemSinkView, IsMemSink};
+
+use crate::calls::Calls;
+use crate::failure::Failed;
+use crate::sink::Sink;
+use std::alloc::{AllocError, Global};
+use std::marker::Model;
+
+/// A sink of bytes in memory, with room for so many, which takes them in short pieces and fails at
+/// given calls.
+///
+/// It serves tests, and it tells its bytes.
+#[derive(Drop)]
+pub struct MemSink {
+    held: Vec<u8>,
+    room: usize,
+    piece: usize,
+    calls: Calls,
+}
+
+impl Model for MemSink {
+    ghost Value = { MemSinkView };
+
+    ghost view = { λ s. record { held = s.held.items; room = s.room; piece = s.piece; calls = s.calls } };
+
+    ghost invariant = { λ s. IsMemSink (vec_len s.held) (vec_capacity s.held) s.room s.piece };
+}
+
+impl MemSink {
+    /// A sink with room for `room` bytes, that takes at most `piece` bytes a write, and fails at the
+    /// writes whose numbers stand in `fails`, in any order. The first write has the number 1.
+    ///
+    /// All the memory is taken here, and none later. A write that fails has a number too. After
+    /// 18446744073709551615 writes the number stands still, and so does the count of faults at that
+    /// number.
+    pub fn new(
+        alloc: Global,
+        room: usize,
+        piece: usize,
+        fails: Vec<u64>,
+    ) -> Result<MemSink, AllocError>
+        requires { 0 < piece }
+        ensures held { IfOk result (λ s. s.held ≡ []) }
+        ensures room { IfOk result (λ s. s.room ≡ room) }
+        ensures piece { IfOk result (λ s. s.piece ≡ piece) }
+        ensures calls { IfOk result (λ s. s.calls ≡ record { fails = fails.items; made = 0; faults = 0 }) }
+    {
+        Ok(MemSink {
+            held: Vec::with_capacity(alloc, room)?,
+            room,
+            piece,
+            calls: Calls::new(fails),
+        })
+    }
+
+    /// The bytes held, those written first at the front.
+    pub fn bytes(&self) -> &[u8]
+        ensures { result.now ≡ self.now.held }
+    {
+        self.held.as_slice()
+    }
+}
+
+impl Sink for MemSink {
+    ghost contents = { λ s. Some s.held };
+
+    ghost faults = { λ s. s.calls.faults };
+
+    fn write(&mut self, bytes: &[u8]) -> Result<usize, Failed>
+        requires { 0 < length bytes.now }
+
+        // As every sink.
+        ensures progress { IfOk result (λ n. 0 < n) }
+        ensures bound { IfOk result (λ n. n ≤ length bytes.now) }
+        ensures appended { IfOk result (λ n. AppendsFirst n bytes.now (Some self.old.held) (Some self.new.held)) }
+        ensures kept { OnErr result (StaysTold (Some self.old.held) (Some self.new.held)) }
+        ensures fault { OnErr result (Rose self.old.calls.faults self.new.calls.faults) }
+        ensures count { self.old.calls.faults ≤ self.new.calls.faults }
+        ensures count_fits { self.new.calls.faults < 2 ^ 64 }
+
+        // This one alone.
+        ensures fails_as_listed { IsErr result ↔ (Contains self.old.calls.fails (raised self.old.calls.made) ⊎ (self.old.room ≤ length self.old.held)) }
+        ensures amount { IfOk result (λ n. n ≡ min (min self.old.piece (length bytes.now)) (self.old.room - length self.old.held)) }
+        ensures ok { IfOk result (λ n. self.new ≡ record self.old { held = self.old.held ++ take n bytes.now; calls = call_counted self.old.calls }) }
+        ensures err { OnErr result (self.new ≡ record self.old { calls = fault_counted (call_counted self.old.calls) }) }
+    {
+        let fails = self.calls.next_fails();
+        let free = self.room - self.held.len();
+        let taken = self.piece.min(bytes.len()).min(free);
+        if fails || taken == 0 || self.held.extend_from_slice(&bytes[..taken]).is_err() {
+            self.calls.fault();
+            return Err(Failed);
+        }
+        Ok(taken)
+    }
+}
+
+#[cfg(test)]
+mod tests {
+    use super::MemSink;
+    use crate::failure::Failed;
+    use crate::put::put_all;
+    use crate::sink::Sink;
+    use std::test::Fail;
+
+    #[test]
+    fn writes_take_pieces_fail_as_listed_and_where_the_room_is_full(
+        rt: HostRuntime,
+    ) -> Result<(), Fail> {
+        let fails = [1].to_vec(rt.alloc())?;
+        let mut sink = MemSink::new(rt.alloc(), 5, 3, fails)?;
+        for want in [Err(Failed), Ok(3), Ok(2), Err(Failed)] {
+            assert_eq!(rt; sink.write(b"abcd"), want);
+        }
+        assert_eq!(rt; sink.bytes(), b"abcab".as_slice());
+        let calls = &sink.calls;
+        let met = calls.faults;
+        assert_eq!(rt; met, 2);
+        Ok(())
+    }
+
+    // The bytes written are `abc`.
+    #[test]
+    fn put_all_appends_all_or_a_prefix_and_then_counts_a_fault(
+        rt: HostRuntime,
+    ) -> Result<(), Fail> {
+        let rows = [
+            (9, 1, 9, Ok(()), "abc", 0),
+            (2, 9, 9, Err(Failed), "ab", 1),
+            (9, 1, 3, Err(Failed), "ab", 1),
+            (0, 1, 9, Err(Failed), "", 1),
+        ];
+        for (room, piece, fails, answer, held, faults) in rows {
+            let fails = [fails].to_vec(rt.alloc())?;
+            let mut sink = MemSink::new(rt.alloc(), room, piece, fails)?;
+            assert_eq!(rt; put_all(&mut sink, b"abc"), answer);
+            assert_eq!(rt; sink.bytes(), held.as_bytes());
+            let calls = &sink.calls;
+            let met = calls.faults;
+            assert_eq!(rt; met, faults);
+        }
+        Ok(())
+    }
+
+    #[test]
+    fn put_all_of_no_bytes_makes_no_call(rt: HostRuntime) -> Result<(), Fail> {
+        let fails = [1].to_vec(rt.alloc())?;
+        let mut sink = MemSink::new(rt.alloc(), 0, 1, fails)?;
+        assert_eq!(rt; put_all(&mut sink, b""), Ok(()));
+        assert_eq!(rt; put_all(&mut sink, b"a"), Err(Failed));
+        Ok(())
+    }
+}

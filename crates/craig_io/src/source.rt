@@ -1,0 +1,68 @@
+//! What gives bytes.
+
+ghost use Rattle.std.specs.Prelude.{◌≡◌, ◌<◌, ◌≤◌, ◌^◌, ℕ, List, Option, Some, length, IfSome, IfOk, OnErr};
+ghost use Rattle.craig_io.specs.Faults.{Rose};
+ghost use Rattle.craig_io.specs.Told.{StaysTold};
+ghost use Rattle.craig_io.specs.Source.{TakesFirst};
+
+use crate::failure::Failed;
+
+/// A source of bytes, as a reader of a file, a pipe or a list in memory.
+///
+/// It has two meanings for proofs: the bytes that are left to read, where it tells them, and a count
+/// of the faults that it met. The count never falls, and is a number of 64 bits that stands still at
+/// its last value.
+pub trait Source {
+    // the bytes that are left to read, where they are told
+    ghost remaining: { Self → Option (List ℕ) };
+
+    // the number of faults so far
+    ghost faults: { Self → ℕ };
+
+    /// Reads some bytes to the start of `into`, and says how many.
+    ///
+    /// `Ok(0)` is the end of the input. What stands in `into` after the bytes read, and after
+    /// `Failed`, is any bytes. After `Failed` the bytes left are as before, and the call may be
+    /// made again.
+    fn read(&mut self, into: &mut [u8]) -> Result<usize, Failed>
+        requires { 0 < length into.old }
+        ensures bound { IfOk result (λ n. n ≤ length into.new) }
+        ensures taken { IfOk result (λ n. TakesFirst n into.new (remaining self.old) (remaining self.new)) }
+        ensures kept { OnErr result (StaysTold (remaining self.old) (remaining self.new)) }
+        ensures fault { OnErr result (Rose (faults self.old) (faults self.new)) }
+        ensures count { faults self.old ≤ faults self.new }
+        ensures count_fits { faults self.new < 2 ^ 64 };
+}
+
+#[cfg(test)]
+mod tests {
+    use super::Source;
+    use crate::mem_source::MemSource;
+    use std::alloc::Global;
+    use std::test::Fail;
+
+    // The clauses of a read are enough for a caller that reads to the end.
+    fn read_whole<R: Source>(alloc: Global, source: &mut R) -> Option<Vec<u8>>
+        ensures { IfSome result (λ all. (bytes : List ℕ) → R.remaining source.old ≡ Some bytes → all.items ≡ bytes) }
+    {
+        let mut all = Vec::new(alloc);
+        let mut piece = [0; 4];
+        for _ in 0..u64::MAX {
+            match source.read(&mut piece) {
+                Ok(0) => return Some(all),
+                Ok(given) => all.extend_from_slice(&piece[..given]).ok()?,
+                Err(_) => return None,
+            }
+        }
+        None
+    }
+
+    #[test]
+    fn a_caller_that_reads_to_the_end_has_all_bytes(rt: HostRuntime) -> Result<(), Fail> {
+        let bytes = b"abcdefgh".to_vec(rt.alloc())?;
+        let mut source = MemSource::new(bytes, 3, Vec::new(rt.alloc()));
+        let all = read_whole(rt.alloc(), &mut source).ok_or("a read failed")?;
+        assert_eq!(rt; all.as_slice(), b"abcdefgh".as_slice());
+        Ok(())
+    }
+}

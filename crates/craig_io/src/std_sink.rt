@@ -1,0 +1,100 @@
+//! A sink over a writer of std.
+
+ghost use Rattle.std.specs.Prelude.{◌≡◌, ◌<◌, ◌≤◌, ◌^◌, length, IfOk, OnOk, OnErr};
+ghost use Rattle.craig_io.specs.Faults.{Rose, raised};
+ghost use Rattle.craig_io.specs.Told.{StaysTold};
+ghost use Rattle.craig_io.specs.Sink.{AppendsFirst};
+ghost use Rattle.craig_io.specs.Counted.{Counted};
+
+use crate::failure::Failed;
+use crate::sink::Sink;
+use std::io::Write;
+use std::marker::Model;
+
+/// A sink over a writer of std, which counts the writer's errors, and each write that takes nothing.
+///
+/// Each error of the writer is a fault, an interruption by a signal too: the write isn't made again.
+/// It tells the bytes that the writer tells: those of a vector, and none of standard output or a file.
+/// The writer should not buffer: this never flushes it, and the error of a buffered write would come
+/// late or never.
+#[derive(Drop)]
+pub struct StdSink<W> {
+    inner: W,
+    faults: u64,
+}
+
+impl<W> Model for StdSink<W> {
+    ghost Value = { Counted W };
+
+    ghost view = { λ s. record { inner = s.inner; faults = s.faults } };
+
+    ghost invariant = { λ s. s.faults < 2 ^ 64 };
+}
+
+impl<W> StdSink<W> {
+    /// A sink over `inner` that has met no error yet.
+    pub fn new(inner: W) -> StdSink<W>
+        ensures inner { result.inner ≡ inner }
+        ensures faults { result.faults ≡ 0 }
+    {
+        StdSink { inner, faults: 0 }
+    }
+}
+
+impl<W: Write> Sink for StdSink<W> {
+    ghost contents = { λ s. W.contents s.inner };
+
+    ghost faults = { λ s. s.faults };
+
+    fn write(&mut self, bytes: &[u8]) -> Result<usize, Failed>
+        requires { 0 < length bytes.now }
+
+        // As every sink.
+        ensures progress { IfOk result (λ n. 0 < n) }
+        ensures bound { IfOk result (λ n. n ≤ length bytes.now) }
+        ensures appended { IfOk result (λ n. AppendsFirst n bytes.now (W.contents self.old.inner) (W.contents self.new.inner)) }
+        ensures kept { OnErr result (StaysTold (W.contents self.old.inner) (W.contents self.new.inner)) }
+        ensures fault { OnErr result (Rose self.old.faults self.new.faults) }
+        ensures count { self.old.faults ≤ self.new.faults }
+        ensures count_fits { self.new.faults < 2 ^ 64 }
+
+        // This one alone.
+        ensures ok { OnOk result (self.new.faults ≡ self.old.faults) }
+        ensures err { OnErr result (self.new.faults ≡ raised self.old.faults) }
+    {
+        match self.inner.write(bytes) {
+            Ok(taken) if taken > 0 => Ok(taken),
+            _ => {
+                self.faults = self.faults.saturating_add(1);
+                Err(Failed)
+            }
+        }
+    }
+}
+
+#[cfg(test)]
+mod tests {
+    use super::StdSink;
+    use crate::failure::Failed;
+    use crate::put::put_all;
+    use crate::sink::Sink;
+    use std::test::Fail;
+
+    #[test]
+    fn a_vector_holds_what_was_written(rt: HostRuntime) -> Result<(), Fail> {
+        let mut held = Vec::new(rt.alloc());
+        let mut sink = StdSink::new(&mut held);
+        assert_eq!(rt; put_all(&mut sink, b"abc"), Ok(()));
+        assert_eq!(rt; held.as_slice(), b"abc".as_slice());
+        Ok(())
+    }
+
+    #[test]
+    fn a_write_that_takes_nothing_is_a_fault(rt: HostRuntime) {
+        let mut room = [0; 2];
+        let mut sink = StdSink::new(room.as_mut_slice());
+        assert_eq!(rt; sink.write(b"abc"), Ok(2));
+        assert_eq!(rt; sink.write(b"c"), Err(Failed));
+        assert_eq!(rt; sink.faults, 1);
+    }
+}

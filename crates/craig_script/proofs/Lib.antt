@@ -1,0 +1,5 @@
+pub mod LinesLemmas
+pub mod NumbersLemmas
+pub mod Outcomes
+pub mod ReadingLemmas
+pub mod WordsLemmas

@@ -1,0 +1,35 @@
+//! Laws of the definitions, for proofs about whole streams and about what is written. The functions do nothing.
+
+ghost use Rattle.std.specs.Prelude.{◌≡◌, ◌≢◌, ℕ, ◌^◌, ◌<◌, ℤ, pos, List, [], ◌++◌, map};
+ghost use Rattle.std.specs.Fmt.{decimal, signed_decimal};
+ghost use Rattle.std.specs.Int.RustNames.{unsigned_abs};
+ghost use Rattle.std.specs.List.{concat};
+ghost use Rattle.craig_script.specs.Numbers.{digit_limit, number_of, literal_of};
+ghost use Rattle.craig_script.specs.declared.line.Line.{Line};
+ghost use Rattle.craig_script.specs.Lines.{Cut, start, fed, ended, after, all_fed, line_of, whole_lines, script_lines};
+
+/// It makes no difference where a stream is cut into pieces.
+pub fn cut_anywhere()
+    ensures pieces { (cut : Cut) (a b : List ℕ) → fed (fed cut a) b ≡ fed cut (a ++ b) }
+    ensures nothing { fed start [] ≡ start }
+    ensures all { (pieces : List (List ℕ)) → all_fed start pieces ≡ fed start (concat pieces) }
+{}
+
+/// What a stream that was fed whole gives, before and after its end.
+pub fn whole_stream()
+    ensures ready { (stream : List ℕ) → (fed start stream).ready ≡ map line_of (whole_lines stream) }
+    ensures ended { (stream : List ℕ) → (ended (fed start stream)).ready ≡ script_lines stream }
+{}
+
+/// Lines that were given before may be counted in: what comes next changes nothing in front of it.
+pub fn given_before()
+    ensures fed { (given : List Line) (cut : Cut) (piece : List ℕ) → fed (after given cut) piece ≡ after given (fed cut piece) }
+    ensures ended { (given : List Line) (cut : Cut) → ended (after given cut) ≡ after given (ended cut) }
+{}
+
+/// The numbers are the decimal forms of those below 10 ^ 18, and literals are read back.
+pub fn decimal_forms()
+    ensures read { (word : List ℕ) (n : ℕ) → number_of word ≡ Some n → (word ≡ decimal n) × (n < 10 ^ digit_limit) }
+    ensures number { (n : ℕ) → n < 10 ^ digit_limit → number_of (decimal n) ≡ Some n }
+    ensures literal { (z : ℤ) → z ≢ pos 0 → unsigned_abs z < 10 ^ digit_limit → literal_of (signed_decimal z) ≡ Some z }
+{}

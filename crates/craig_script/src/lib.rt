@@ -1,0 +1,35 @@
+//! The script: bytes to lines, and a line to a command.
+//!
+//! `Lines` takes a stream in pieces and gives its lines, however it was cut. `parse` reads a line as a
+//! command by the grammar alone, and `admit` then tests its parts and variables against their ranges.
+//! Variables are the script's own here: whole numbers from 1 on, signed in a literal.
+#![tactic(auto)]
+
+mod admission;
+mod bytes;
+mod command;
+mod laws;
+mod line;
+mod lines;
+mod literal;
+mod numbers;
+mod pairs;
+mod reading;
+mod refusal;
+mod setting_words;
+mod words;
+
+pub use admission::admit;
+pub use bytes::Bytes;
+pub use command::Command;
+pub use laws::{cut_anywhere, decimal_forms, given_before, whole_stream};
+pub use line::Line;
+pub use lines::{LINE_LIMIT, Lines};
+pub use numbers::Numbers;
+pub use pairs::Pairs;
+pub use reading::parse;
+pub use refusal::{LineFault, Refusal};
+pub use setting_words::{FormatWord, SystemWord};
+
+#[cfg(test)]
+mod tests;

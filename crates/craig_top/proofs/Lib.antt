@@ -1,0 +1,12 @@
+pub mod BranchLemmas
+pub mod ValueLemmas
+pub mod NamingLemmas
+pub mod BelowLemmas
+pub mod ModelLemmas
+pub mod ResultLemmas
+pub mod GrowthLemmas
+pub mod StoredLemmas
+pub mod UnassumingLemmas
+pub mod TranscriptLemmas
+pub mod PutsLemmas
+pub mod RunLemmas

@@ -1,0 +1,17 @@
+pub mod Branches
+pub mod Emptied
+pub mod Ending
+pub mod GivenState
+pub mod Growth
+pub mod ModelReply
+pub mod Naming
+pub mod Progress
+pub mod Puts
+pub mod Reply
+pub mod StartingSettings
+pub mod Statuses
+pub mod StopStatus
+pub mod Stored
+pub mod Transcript
+pub mod Unassuming
+pub mod Values

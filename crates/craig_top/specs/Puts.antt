@@ -1,0 +1,16 @@
+-- What was put to a sink, where it tells the bytes that it holds.
+use Rattle.std.specs.Prelude.{◌≡◌, ℕ, List, ◌++◌, Option, Some}
+use Rattle.craig_script.specs.declared.line.Line.{Line}
+use Rattle.craig_top.specs.declared.run.Stop.{Stop}
+use Rattle.craig_top.specs.declared.run.Stop.TheVariants.{NoMemory, WriteFault}
+use Rattle.craig_top.specs.GivenState.{State}
+use Rattle.craig_top.specs.Transcript.{BeginsTranscript, BreaksOff}
+
+-- a text with the property was appended
+abbrev pub Puts : (before after : Option (List ℕ)) → (List ℕ → Type 0) → Type 0
+Puts before after P = (held : List ℕ) → before ≡ Some held → (text : List ℕ) × P text × (after ≡ Some (held ++ text))
+
+-- what was put when answering the lines stopped
+abbrev pub Stopped : Stop → State → List Line → (before after : Option (List ℕ)) → Type 0
+Stopped NoMemory state lines before after = Puts before after (BeginsTranscript state lines)
+Stopped WriteFault state lines before after = Puts before after (BreaksOff state lines)

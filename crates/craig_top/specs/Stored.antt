@@ -1,0 +1,15 @@
+-- How a session keeps the given state.
+use Rattle.std.specs.Prelude.{ℕ, List, length, map}
+use Rattle.craig_spec.specs.Literal.{Clause}
+use Rattle.craig_base.specs.declared.script_part.Part.{Part}
+use Rattle.craig_top.specs.GivenState.{State}
+use Rattle.craig_top.specs.Naming.{written}
+use Rattle.craig_top.specs.Values.{AreOver}
+
+-- the given state that the parts, the names and the dense clauses are
+abbrev pub stored_state : ℕ → List ℕ → List (Part × Clause) → State
+stored_state parts names accepted = record { parts = parts; accepted = written names accepted }
+
+-- every variable of the dense clauses has a name
+abbrev pub IsStored : List ℕ → List (Part × Clause) → Type 0
+IsStored names accepted = AreOver (length names) (map (λ a. a.1) accepted)

@@ -1,4 +1,9 @@
-//! The session and the top call.
+//! The session, which answers a script line by line, and the top call of the program.
+//!
+//! `craig_top` reads the words and calls `run_script`, which takes bytes from a source, cuts them into lines, and
+//! puts the reply of a `Session` to each line to a sink. The contract of `craig_top` is the transcript theorem: what
+//! was put is made of allowed replies, one for each line, and each way in which a run can end says which lines these
+//! are. A `solve` is answered by plain splitting, which is private to this crate.
 #![tactic(auto)]
 
 mod clause;
@@ -17,3 +22,6 @@ pub use session::Session;
 pub use settings::Settings;
 pub use status::Status;
 pub use top_call::craig_top;
+
+#[cfg(test)]
+mod tests;

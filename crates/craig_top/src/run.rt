@@ -96,6 +96,7 @@ impl Run {
         }
         Ok(())
     }
+
     /// Takes the next bytes of the script, and answers the lines that are whole with them.
     fn take<W: Sink>(&mut self, bytes: &[u8], sink: &mut W) -> Result<(), Stop>
         requires { self.old.lines.finished ≡ false }
@@ -120,6 +121,7 @@ impl Run {
         self.lines.finish()?;
         self.answer_ready(sink)
     }
+
     /// Reads once, and answers the lines that are whole then, at the end of the input also a last one without its
     /// newline. Answers how many bytes were read, 0 at the end, or the status of a run that stops.
     fn step<R: Source, W: Sink>(
@@ -154,6 +156,7 @@ impl Run {
             },
         }
     }
+
     /// Reads and answers until the input ends, the bound is reached or the run stops. A read asks for no more bytes
     /// than the buffer holds.
     fn read_to_end<R: Source, W: Sink>(

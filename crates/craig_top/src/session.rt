@@ -58,8 +58,11 @@ impl Session {
         }
     }
 
-    #[tactic(auto, unfolding(crate::specs::Reply::Reply, crate::specs::GivenState::next))]
     /// Appends the reply to one line, whole, and goes on to the state after it.
+    ///
+    /// After an error, for which only want of memory is a cause, a part of a reply may stand at the end of `out`, and
+    /// nothing is promised of the session.
+    #[tactic(auto, unfolding(crate::specs::Reply::Reply, crate::specs::GivenState::next))]
     pub fn answer(&mut self, line: &Line, out: &mut Vec<u8>) -> Result<(), AllocError>
         ensures reply { OnOk result ((reply : List ℕ) × Reply self.old line.now reply × (out.new.items ≡ out.old.items ++ reply)) }
         ensures state { OnOk result (self.new ≡ next self.old line.now) }

@@ -1,4 +1,4 @@
-use Rattle.std.proofs.Common.{◌≡◌, ◌∙◌, ◌++◌, [], ◌∷◌, sym, ap, subst, arith}
+use Rattle.std.proofs.Common.{◌≡◌, ◌∙◌, ◌++◌, [], ◌∷◌, sym, ap, subst, arith, List, ℕ, refl}
 use Rattle.std.proofs.lemmas.List.{append_assoc}
 use Rattle.std.proofs.lemmas.Result.{err_from_is_err_and}
 use Rattle.craig_script.specs.Lines.{Cut}
@@ -7,6 +7,10 @@ use Rattle.craig_top.specs.Reply.{Reply}
 use Rattle.craig_top.proofs.TranscriptLemmas.{after-append}
 use Rattle.craig_top.proofs.PutsLemmas.{Puts-push, Puts-broken}
 use Rattle.craig_top.proofs.run.Run.answer_ready.Goals as goal
+
+-- what is put is the reply, since nothing stood in front of it
+whole_reply : (bytes out cleared reply : List ℕ) → bytes ≡ out → out ≡ cleared ++ reply → cleared ≡ [] → bytes ≡ reply
+whole_reply bytes out cleared reply e f g = rw (e, f, g) refl
 
 -- the stream is as it was but for the lines that wait
 same_but_ready : (first old new : Cut) → old ≡ record first { ready = old.ready } → new ≡ record old { ready = new.ready } → new ≡ record first { ready = new.ready }
@@ -21,7 +25,7 @@ returns-in_err-put_all-clause-stopped g c =
     subst (λ (state : State). Reply state c.in-Some.line reply.0) c.loop-line.invariant.session reply.1 in
     rw (p.1, p.2) (Puts-broken _ _ _ c.args.self.now.session c.args.self.now.lines.ready c.loop-line.invariant.answered c.in-Some.line c.next.new.self.ready reply.0 c.deref.result.now
     (c.loop-line.invariant.ready ∙ ap (λ ls. c.loop-line.invariant.answered ++ ls) some.0) c.loop-line.invariant.put allowed
-    (c.deref.ensures.value ∙ reply.2 ∙ ap (λ bs. bs ++ reply.0) c.clear.ensures.items) c.in_err-put_all.ensures.begun)
+    (whole_reply _ _ _ _ c.deref.ensures.value reply.2 c.clear.ensures.items) c.in_err-put_all.ensures.begun)
 
 pub loop-line-preserved : goal.loop-line-preserved
 loop-line-preserved g c =
@@ -36,7 +40,7 @@ loop-line-preserved g c =
       session = c.in_ok-answer.ensures.state ∙ ap (λ state. next state c.in-Some.line) c.loop-line.invariant.session
           ∙ sym (after-append c.args.self.now.session c.loop-line.invariant.answered (c.in-Some.line ∷ []));
       put = Puts-push _ _ _ c.args.self.now.session c.loop-line.invariant.answered c.in-Some.line reply.0 c.deref.result.now c.loop-line.invariant.put allowed
-          (c.deref.ensures.value ∙ reply.2 ∙ ap (λ bs. bs ++ reply.0) c.clear.ensures.items) c.in_ok-put_all.ensures.written;
+          (whole_reply _ _ _ _ c.deref.ensures.value reply.2 c.clear.ensures.items) c.in_ok-put_all.ensures.written;
       count = omega (arith, c.loop-line.invariant.count, c.in_ok-put_all.ensures.count);
     }
 
@@ -53,6 +57,6 @@ loop-line-preserved-in_ok-put_all g c =
       session = c.in_ok-answer.ensures.state ∙ ap (λ state. next state c.in-Some.line) c.loop-line.invariant.session
           ∙ sym (after-append c.args.self.now.session c.loop-line.invariant.answered (c.in-Some.line ∷ []));
       put = Puts-push _ _ _ c.args.self.now.session c.loop-line.invariant.answered c.in-Some.line reply.0 c.deref.result.now c.loop-line.invariant.put allowed
-          (c.deref.ensures.value ∙ reply.2 ∙ ap (λ bs. bs ++ reply.0) c.clear.ensures.items) c.in_ok-put_all.ensures.written;
+          (whole_reply _ _ _ _ c.deref.ensures.value reply.2 c.clear.ensures.items) c.in_ok-put_all.ensures.written;
       count = omega (arith, c.loop-line.invariant.count, c.in_ok-put_all.ensures.count);
     }

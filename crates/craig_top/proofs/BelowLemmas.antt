@@ -1,5 +1,5 @@
 -- Whether a test passes at some number below a bound.
-use Rattle.std.proofs.Common.{ℕ, zero, suc, ◌+◌, ◌<◌, ◌≤◌, ◌≡◌, ◌≢◌, ◌∙◌, sym, ap, arith, refl, Bool, true, false, ◌||◌, inl, inr}
+use Rattle.std.proofs.Common.{ℕ, zero, suc, ◌<◌, ◌≡◌, ◌≢◌, ◌∙◌, sym, ap, arith, refl, Bool, true, false, ◌||◌, inl, inr}
 use Rattle.std.proofs.lemmas.Bool.{or_from, or_left, or_right, or_cases, cases_eq, cases_Bool}
 
 abbrev pub any_below : (ℕ → Bool) → ℕ → Bool

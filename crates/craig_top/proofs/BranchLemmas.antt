@@ -1,6 +1,6 @@
 -- What one step of splitting does to the branch.
-use Rattle.std.proofs.Common.{get_or, sym, length-append, ℕ, zero, suc, ◌+◌, ◌<◌, ◌≤◌, ◌≡◌, List, [], ◌∷◌, ◌++◌, length, arith, refl, ap, Bool, true, false, IsTrue}
-use Rattle.craig_top.specs.Branches.{same, behind, behind_or_under, branches, branches_ahead, branches_left}
+use Rattle.std.proofs.Common.{get_or, sym, length-append, ℕ, zero, suc, ◌+◌, ◌<◌, ◌≤◌, ◌≡◌, List, [], ◌∷◌, ◌++◌, length, arith, refl, ap, Bool, true, false}
+use Rattle.craig_top.specs.Branches.{behind, behind_or_under, branches, branches_ahead, branches_left}
 
 -- with a variable set to false nothing more is behind
 pub behind-push_false : (bs vs : List Bool) → behind (bs ++ false ∷ []) vs ≡ behind bs vs

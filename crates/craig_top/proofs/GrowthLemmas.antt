@@ -1,14 +1,13 @@
 -- Clauses keep their meaning when names are added.
-use Rattle.std.proofs.Common.{get_or, sym, subst, ◌∙◌, length, ℕ, zero, suc, ◌+◌, ◌<◌, ◌≤◌, ◌≡◌, List, [], ◌∷◌, ◌++◌, arith, refl, ap, Bool, true, false, ◌&&◌, map, nat_lt, nat_le, nat_eq, take, inl, inr, Some, slice_get, ℤ, pos, negsuc, length-append}
+use Rattle.std.proofs.Common.{get_or, ◌∙◌, length, ℕ, zero, suc, ◌+◌, ◌<◌, ◌≤◌, ◌≡◌, List, [], ◌∷◌, ◌++◌, arith, refl, true, map, nat_lt, nat_le, nat_eq, take, inl, inr, ℤ, pos, negsuc, length-append}
 use Rattle.std.proofs.lemmas.Bool.{and_parts, and_from, ltb-true, lt-ltb, leb-true, cases_Bool}
 use Rattle.craig_script.specs.Reading.{is_within, variable_limit}
 use Rattle.std.proofs.lemmas.List.{map-append, get_or_append_left, take_more}
-use Rattle.std.proofs.lemmas.Option.{get_or_from_slice_get}
 use mir.Val.{SFits}
 use mir.Syntax.{w64}
 use Rattle.std.proofs.lemmas.Int.{ints}
 use Rattle.std.specs.List.{list_any, list_all}
-use Rattle.std.specs.Int.RustNames.{unsigned_abs, int_lt}
+use Rattle.std.specs.Int.RustNames.{unsigned_abs}
 use Rattle.craig_spec.specs.Literal.{Literal, Clause}
 use Rattle.craig_base.specs.declared.script_part.Part.{Part}
 use Rattle.craig_base.specs.Names.{with_name}

@@ -1,16 +1,16 @@
 -- The literals that say the values of the named variables, put in order, are a model reply.
-use Rattle.std.proofs.Common.{get_or, sym, subst, ◌∙◌, length, ℕ, zero, suc, ◌+◌, ◌<◌, ◌≤◌, ◌≡◌, ◌≢◌, List, [], ◌∷◌, ◌++◌, arith, refl, ap, Bool, true, false, not, ◌&&◌, ◌||◌, map, cond, nat_eq, inl, inr}
+use Rattle.std.proofs.Common.{get_or, sym, subst, ◌∙◌, length, ℕ, zero, suc, ◌<◌, ◌≤◌, ◌≡◌, ◌≢◌, List, [], ◌∷◌, ◌++◌, arith, refl, ap, Bool, true, false, not, ◌&&◌, ◌||◌, map, cond, nat_eq, inl, inr}
 use Rattle.std.proofs.Math.Bool.{or-false}
 use Rattle.std.proofs.lemmas.List.{map-append, append-nil}
 use Rattle.std.proofs.lemmas.List.Folds.{list_any-append}
 use Rattle.std.proofs.lemmas.List.Sorted.{list_any-IsPermutation, IsPermutation-map}
 use Rattle.std.proofs.lemmas.Map.Keys.{apart_from_distinct, IsDistinct-push, IsDistinct-IsPermutation, IsStrictlyIncreasing-from_distinct}
-use Rattle.std.proofs.lemmas.Bool.{and_parts, and_from, and_left, and_right, or_left, or_right, or_cases, or_from, eqb-true, eq-eqb, ne_eqb, cases_Bool, cases_order}
+use Rattle.std.proofs.lemmas.Bool.{and_parts, and_from, and_right, eqb-true, eq-eqb, cases_order}
 use Rattle.std.proofs.lemmas.Cmp.{nat_eq_equiv}
-use Rattle.std.specs.List.{list_any, list_all, filter, IsDistinct}
-use Rattle.std.specs.List.Sorted.{IsPermutation, IsStrictlyIncreasing, IsNonDecreasing}
+use Rattle.std.specs.List.{list_any, IsDistinct}
+use Rattle.std.specs.List.Sorted.{IsPermutation, IsNonDecreasing}
 use Rattle.craig_spec.specs.Literal.{Literal, Clause}
-use Rattle.craig_spec.specs.Truth.{Assignment, IsModel, variable_value, clause_value}
+use Rattle.craig_spec.specs.Truth.{variable_value}
 use Rattle.craig_spec.specs.Occurs.{occurs, occurs_in_clause}
 use Rattle.craig_top.specs.Values.{all_hold, AreOver}
 use Rattle.craig_top.specs.Naming.{named_clause, model_below}

@@ -1,11 +1,11 @@
 -- Dense clauses and values, and the clauses and assignments of the script that they stand for.
-use Rattle.std.proofs.Common.{get_or, sym, ◌∙◌, length, ℕ, zero, suc, ◌+◌, ◌<◌, ◌≤◌, ◌≡◌, ◌≢◌, List, [], ◌∷◌, ◌++◌, arith, refl, ap, Bool, true, false, not, ◌&&◌, ◌||◌, map, cond, nat_lt, nat_eq, inl, inr, Some, slice_get, add-one, append-nil}
+use Rattle.std.proofs.Common.{get_or, sym, ◌∙◌, length, ℕ, ◌+◌, ◌<◌, ◌≡◌, List, [], ◌∷◌, ◌++◌, arith, refl, ap, Bool, true, false, not, map, cond, nat_lt, nat_eq, inl, inr, Some, slice_get, add-one, append-nil}
 use Rattle.std.proofs.lemmas.Option.{get_or_from_slice_get}
 use Rattle.std.proofs.lemmas.List.{get_or-map, length-map}
-use Rattle.std.proofs.lemmas.Bool.{and_parts, and_from, or_left, or_right, or_cases, eqb-true, eq-eqb, ltb-true, both_ways}
+use Rattle.std.proofs.lemmas.Bool.{and_parts, or_left, or_right, or_cases, eqb-true, eq-eqb, ltb-true, both_ways}
 use Rattle.std.specs.List.{list_any, list_all}
 use Rattle.craig_spec.specs.Literal.{Literal, Clause}
-use Rattle.craig_spec.specs.Truth.{Assignment, IsUnsatisfiable, IsModel, variable_value, literal_value, clause_value}
+use Rattle.craig_spec.specs.Truth.{Assignment, IsUnsatisfiable, variable_value, literal_value, clause_value}
 use Rattle.craig_spec.specs.Occurs.{occurs, occurs_in_clause}
 use Rattle.craig_top.specs.Values.{value_at, all_hold, IsOver, AreOver}
 use Rattle.craig_top.specs.Naming.{named_literal, named_clause, model_below}

@@ -1,6 +1,6 @@
 -- What was put, one reply after the other.
 use Rattle.std.proofs.Common.{◌≡◌, ◌∙◌, ◌≤◌, sym, ap, subst, List, ℕ, [], ◌∷◌, ◌++◌, refl, length, take, drop, Option, Some}
-use Rattle.std.proofs.lemmas.List.{append_assoc, append-nil, take-append-drop}
+use Rattle.std.proofs.lemmas.List.{append_assoc, take-append-drop}
 use Rattle.craig_io.specs.Sink.{AppendsAll, AppendsPrefix}
 use Rattle.craig_script.specs.declared.line.Line.{Line}
 use Rattle.craig_top.specs.GivenState.{State, after}

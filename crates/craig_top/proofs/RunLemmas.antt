@@ -1,6 +1,6 @@
 -- How far a run has come, read by read, and how it may end.
-use Rattle.std.proofs.Common.{◌≡◌, ◌≢◌, ◌∙◌, ◌≤◌, ◌<◌, ◌+◌, length-append, sym, ap, subst, List, ℕ, zero, suc, [], ◌∷◌, ◌++◌, refl, length, take, drop, inl, inr, Option, Some, map, Result, Ok, Err, arith}
-use Rattle.std.proofs.lemmas.List.{append_assoc, append-nil, take-append-drop, map-append, length-take-le}
+use Rattle.std.proofs.Common.{◌≡◌, ◌∙◌, ◌≤◌, ◌<◌, ◌+◌, length-append, sym, ap, subst, List, ℕ, zero, suc, [], ◌∷◌, ◌++◌, refl, length, take, drop, inl, inr, Option, Some, map, Ok, Err, arith}
+use Rattle.std.proofs.lemmas.List.{append_assoc, append-nil, take-append-drop, map-append}
 use Rattle.craig_io.specs.Told.{StaysTold}
 use Rattle.craig_io.specs.Source.{TakesFirst}
 use Rattle.craig_script.specs.declared.line.Line.{Line}

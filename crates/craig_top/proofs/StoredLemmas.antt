@@ -1,11 +1,11 @@
 -- What a session keeps, when names or a clause are added.
-use Rattle.std.proofs.Common.{append-nil, Result, Ok, Err, OnOk, ap, sym, subst, ◌∙◌, length, ℕ, ◌≤◌, ◌≡◌, List, [], ◌∷◌, ◌++◌, map, ℤ, refl}
+use Rattle.std.proofs.Common.{append-nil, Result, Ok, Err, OnOk, ap, length, ℕ, ◌≡◌, List, [], ◌∷◌, ◌++◌, map, ℤ, refl}
 use Rattle.std.proofs.lemmas.List.{map-append}
-use Rattle.craig_spec.specs.Literal.{Literal, Clause}
+use Rattle.craig_spec.specs.Literal.{Clause}
 use Rattle.craig_base.specs.declared.script_part.Part.{Part}
 use Rattle.craig_top.specs.GivenState.{State, Accepted, script_literal, clauses_of}
 use Rattle.craig_top.specs.Growth.{Grows}
-use Rattle.craig_top.specs.Values.{IsOver, AreOver}
+use Rattle.craig_top.specs.Values.{IsOver}
 use Rattle.craig_top.specs.Naming.{named_clause, written}
 use Rattle.craig_top.specs.Stored.{stored_state, IsStored}
 use Rattle.craig_top.specs.Reply.{IsVerdict, assuming}

@@ -1,10 +1,10 @@
 -- Transcripts, one after the other.
-use Rattle.std.proofs.Common.{◌≡◌, ◌∙◌, sym, ap, subst, List, ℕ, [], ◌∷◌, ◌++◌, refl}
+use Rattle.std.proofs.Common.{◌≡◌, ◌∙◌, sym, ap, List, ℕ, [], ◌∷◌, ◌++◌, refl}
 use Rattle.std.proofs.lemmas.List.{append_assoc, append-nil}
 use Rattle.craig_script.specs.declared.line.Line.{Line}
 use Rattle.craig_top.specs.GivenState.{State, next, after}
 use Rattle.craig_top.specs.Reply.{Reply}
-use Rattle.craig_top.specs.Transcript.{Transcript, BeginsTranscript, BreaksOff}
+use Rattle.craig_top.specs.Transcript.{Transcript}
 
 pub after-append : (state : State) (a b : List Line) → after state (a ++ b) ≡ after (after state a) b
 after-append state [] b = refl

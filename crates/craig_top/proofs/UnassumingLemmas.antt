@@ -1,5 +1,5 @@
 -- What is read as a command has no assumptions.
-use Rattle.std.proofs.Common.{length, nat_le, ◌≡◌, List, ℕ, ℤ, [], ◌∷◌, Bool, true, false, cond, Result, Ok, Err, refl, subst, sym, ap}
+use Rattle.std.proofs.Common.{length, nat_le, ◌≡◌, List, ℕ, ℤ, [], ◌∷◌, Bool, true, false, cond, Result, Ok, Err, refl, subst}
 use Rattle.std.specs.Prelude.{codes}
 use Rattle.std.specs.Str.{bytes_eq}
 use Rattle.craig_script.specs.declared.line.Line.{Line}

@@ -1,6 +1,6 @@
 -- What a branch that makes a clause false, or none, says of full lists of values.
-use Rattle.std.proofs.Common.{get_or, sym, subst, ◌∙◌, length, ℕ, zero, suc, ◌+◌, ◌<◌, ◌≤◌, ◌≡◌, List, [], ◌∷◌, arith, refl, ap, Bool, true, false, not, ◌&&◌, ◌||◌, map, cond, nat_lt, inl, inr}
-use Rattle.std.proofs.lemmas.Bool.{and_parts, and_cases, and_from, and_left, and_right, or_from, or_left, or_right, not-true, not-false, cases_Bool, ltb-true, ltb-false, or_parts}
+use Rattle.std.proofs.Common.{get_or, sym, subst, ◌∙◌, length, ℕ, zero, suc, ◌<◌, ◌≡◌, List, [], ◌∷◌, arith, refl, ap, Bool, true, false, not, ◌&&◌, ◌||◌, map, cond, nat_lt, inl, inr}
+use Rattle.std.proofs.lemmas.Bool.{and_parts, and_cases, and_from, and_left, and_right, or_from, or_left, or_right, not-true, not-false, cases_Bool, ltb-true, or_parts}
 use Rattle.std.specs.List.{list_any, list_all}
 use Rattle.craig_spec.specs.Literal.{Literal, Clause}
 use Rattle.craig_top.specs.Values.{value_at, all_hold, is_false_under, refutes, IsOver, AreOver}

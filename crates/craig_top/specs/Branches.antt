@@ -1,6 +1,6 @@
 -- Splitting over variables in one order: a branch is the list of the first variables' values, false is
 -- tried before true, and a full list of values lies behind a branch, under it, or ahead of it.
-use Rattle.std.specs.Prelude.{ℕ, zero, suc, ◌+◌, ◌*◌, Bool, true, false, not, List, [], ◌∷◌, ◌≡◌, if◌then◌else◌}
+use Rattle.std.specs.Prelude.{ℕ, zero, suc, ◌+◌, Bool, true, false, not, List, [], ◌∷◌, if◌then◌else◌}
 
 -- whether the two truth values are the same
 abbrev pub same : Bool → Bool → Bool

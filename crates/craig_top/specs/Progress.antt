@@ -1,5 +1,5 @@
 -- How far a run has come, and what one read more leaves.
-use Rattle.std.specs.Prelude.{◌≡◌, ◌≢◌, ℕ, zero, suc, List, [], ◌++◌, take, Option, Some, Result, Ok, Err}
+use Rattle.std.specs.Prelude.{◌≡◌, ◌≢◌, ℕ, zero, suc, List, ◌++◌, take, Option, Some, Result, Ok, Err}
 use Rattle.craig_script.specs.Lines as cut
 use Rattle.craig_top.specs.declared.settings.Settings.{Settings}
 use Rattle.craig_top.specs.declared.status.Status.{Status}

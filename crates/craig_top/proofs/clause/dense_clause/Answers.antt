@@ -1,8 +1,7 @@
-use Rattle.std.proofs.Common.{◌≡◌, ◌∙◌, ◌≤◌, sym, ap, length, map, arith, ℕ, ℤ, pos, Bool, get_or}
-use mir.Val.{SFits, to_z, of_z}
+use Rattle.std.proofs.Common.{◌∙◌, ap, pos, get_or}
+use mir.Val.{SFits}
 use mir.Syntax.{w64}
 use Rattle.std.proofs.lemmas.Int.{to_z-of_z}
-use Rattle.std.specs.Int.RustNames.{unsigned_abs}
 use Rattle.craig_script.specs.Reading.{variable_limit}
 use Rattle.craig_top.specs.GivenState.{script_literal}
 use Rattle.craig_top.proofs.GrowthLemmas.{Grows-trans, is_within-at, named_clause-push, IsOver-more, IsOver-push, SFits-from_abs}

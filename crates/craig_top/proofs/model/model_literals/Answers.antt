@@ -1,4 +1,4 @@
-use Rattle.std.proofs.Common.{◌≡◌, ◌∙◌, ap, [], ◌∷◌, ◌++◌}
+use Rattle.std.proofs.Common.{◌∙◌, ap, [], ◌∷◌, ◌++◌}
 use Rattle.craig_top.proofs.NamingLemmas.{model_below-named, model_below-unnamed}
 use Rattle.craig_top.proofs.model.model_literals.Goals as goal
 use Rattle.craig_top.proofs.model.model_literals.Goals.{then-named-index+in_ok-push, else-named-index}

@@ -1,4 +1,4 @@
-use Rattle.std.proofs.Common.{◌≡◌, ℕ, false, ◌||◌, get_or, take, length, ◌≤◌}
+use Rattle.std.proofs.Common.{◌≡◌, ℕ, false, ◌||◌, get_or, take}
 use Rattle.craig_spec.specs.Occurs.{occurs_in_clause}
 use Rattle.craig_top.proofs.model.note_variables.Given as goal
 

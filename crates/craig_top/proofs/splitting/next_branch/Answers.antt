@@ -1,5 +1,4 @@
-use Rattle.std.proofs.Common.{ℕ, ◌≤◌, ◌≡◌, ◌∙◌, List, Bool, length, vec_len, arith}
-use Rattle.craig_top.specs.Branches.{behind, behind_or_under, branches_ahead, branches_left}
+use Rattle.std.proofs.Common.{◌∙◌, arith}
 use Rattle.craig_top.proofs.BranchLemmas.{next-behind, next-left, shorter-passed, shorter-ahead}
 use Rattle.craig_top.proofs.splitting.next_branch.Goals as goal
 

@@ -1,5 +1,5 @@
-use Rattle.std.proofs.Common.{◌≡◌, ℕ, ◌≤◌, ◌<◌, Bool, List, length, vec_len}
-use Rattle.craig_top.specs.Branches.{behind, behind_or_under, branches_ahead, branches_left}
+use Rattle.std.proofs.Common.{◌≡◌, ℕ, ◌≤◌, Bool, List, length, vec_len}
+use Rattle.craig_top.specs.Branches.{behind_or_under, branches_ahead}
 use Rattle.craig_top.proofs.splitting.next_branch.Given as goal
 
 -- what is behind the shorter branch or under it is what was behind or under the one at the start

@@ -1,4 +1,4 @@
-use Rattle.std.proofs.Common.{[], ◌∷◌, ◌++◌, ℕ, ◌≤◌, ◌<◌, ◌≡◌, ◌∙◌, sym, ap, List, Bool, true, false, length, vec_len, map, arith, inl, inr, refl}
+use Rattle.std.proofs.Common.{[], ◌∷◌, ◌++◌, ℕ, ◌≤◌, ◌<◌, ◌≡◌, ◌∙◌, sym, ap, List, Bool, true, false, length, vec_len, map, arith, inl, inr}
 use Rattle.std.proofs.lemmas.Bool.{cases_Bool, OnTrue_at}
 use Rattle.craig_top.specs.Branches.{behind, behind_or_under, branches_ahead, branches_left}
 use Rattle.craig_spec.specs.Literal.{Clause}

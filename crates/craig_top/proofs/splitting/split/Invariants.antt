@@ -1,4 +1,4 @@
-use Rattle.std.proofs.Common.{◌≡◌, ℕ, ◌≤◌, ◌<◌, Bool, true, false, List, length, vec_len, map}
+use Rattle.std.proofs.Common.{◌≡◌, ◌≤◌, Bool, true, false, List, length, vec_len, map}
 use Rattle.craig_top.specs.Branches.{behind, branches_left}
 use Rattle.craig_top.specs.Values.{all_hold}
 use Rattle.craig_top.proofs.splitting.split.Given as goal

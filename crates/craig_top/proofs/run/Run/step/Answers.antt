@@ -1,4 +1,4 @@
-use Rattle.std.proofs.Common.{take, length-take, arith, ℕ, ◌≡◌, length}
+use Rattle.std.proofs.Common.{take, arith, ◌≡◌}
 use Rattle.std.proofs.lemmas.List.{length-take-le}
 use Rattle.craig_top.proofs.RunLemmas.{Promise-read_fault, Promise-done, Promise-end, Promise-piece, IsAtEnd-read, Takes-read, Progress-more, StepLeaves-more}
 use Rattle.craig_top.proofs.run.Run.step.Goals as goal

@@ -1,5 +1,3 @@
-use Rattle.std.proofs.Common.{◌∙◌, ap, ◌++◌, ◌∷◌, []}
-use Rattle.craig_top.specs.GivenState.{State}
 use Rattle.craig_top.proofs.StoredLemmas.{IsStored-grows, IsStored-push, stored_state-push}
 use Rattle.craig_top.proofs.session.Session.accept.Goals as goal
 

@@ -1,3 +1,5 @@
 pub mod Literal
 pub mod Truth
 pub mod Occurs
+pub mod Chain
+pub mod Needed

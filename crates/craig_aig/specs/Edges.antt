@@ -1,0 +1,19 @@
+-- Edges, and how they are packed into one number.
+use Rattle.std.specs.Prelude.{ℕ, ◌+◌, ◌*◌, ◌/◌, ◌%◌, Bool, not, nat_eq, if◌then◌else◌}
+
+-- the node at the place, or its negation
+pub record Edge : Type 0 where
+  pub place : ℕ
+  pub negated : Bool
+
+-- the edge that is true exactly where this one is false
+abbrev pub negation : Edge → Edge
+negation e = record { place = e.place; negated = not e.negated }
+
+-- twice the place, and one more for the negation
+abbrev pub edge_code : Edge → ℕ
+edge_code e = 2 * e.place + (if e.negated then 1 else 0)
+
+-- the edge that has the code
+abbrev pub edge_of_code : ℕ → Edge
+edge_of_code n = record { place = n / 2; negated = nat_eq (n % 2) 1 }

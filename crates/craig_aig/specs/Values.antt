@@ -1,0 +1,30 @@
+-- Values of nodes and edges under an assignment of the dense variables.
+use Rattle.std.specs.Prelude.{Bool, false, not, ◌&&◌, List, length, slice_index_or, if◌then◌else◌}
+use Rattle.std.specs.List.{filter, range_with_len}
+use Rattle.craig_spec.specs.Truth.{Assignment, variable_value}
+use Rattle.craig_aig.specs.Edges.{Edge}
+use Rattle.craig_aig.specs.FromFront.{from_front}
+use Rattle.craig_aig.specs.declared.node.Node.{Node}
+use Rattle.craig_aig.specs.declared.node.Node.TheVariants.{Constant, Input, Gate}
+
+-- the value of an edge, given the values of the nodes
+abbrev pub edge_value_in : List Bool → Edge → Bool
+edge_value_in values e = if e.negated then not (slice_index_or values e.place false) else slice_index_or values e.place false
+
+-- the value of a node, given the values of the nodes before it
+abbrev pub node_value : Assignment → List Bool → Node → Bool
+node_value s before Constant = false
+node_value s before (Input x) = variable_value s x.0
+node_value s before (Gate left right) = edge_value_in before left && edge_value_in before right
+
+-- the values of the nodes
+abbrev pub values : Assignment → List Node → List Bool
+values s nodes = from_front (node_value s) nodes
+
+-- the value of an edge of an arena
+abbrev pub edge_value : Assignment → List Node → Edge → Bool
+edge_value s nodes e = edge_value_in (values s nodes) e
+
+-- the variables that have true at their places in the list
+abbrev pub true_variables : List Bool → Assignment
+true_variables bits = filter (λ x. slice_index_or bits x false) (range_with_len 0 (length bits))

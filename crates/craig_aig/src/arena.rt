@@ -1,0 +1,296 @@
+ghost use Rattle.std.specs.Prelude.{◌≡◌, ◌<◌, ◌≤◌, ◌⊎◌, ◌&&◌, ◌||◌, false, [], ◌∷◌, ℕ, List, length, take, Some, slice_get, Contains, IfOk, OnErr, if◌then◌else◌, not};
+ghost use Rattle.craig_spec.specs.Truth.{Assignment, variable_value};
+ghost use Rattle.craig_aig.specs.Arenas.{IsArena, IsPlaced};
+ghost use Rattle.craig_aig.specs.Cones.{cone, ConeWithin};
+ghost use Rattle.craig_aig.specs.Conjunctions.{constant_edge, gate, IsConjunction};
+ghost use Rattle.craig_aig.specs.Edges.{Edge, negation};
+ghost use Rattle.craig_aig.specs.Growth.{Extends, KeepsEdges, IsShared};
+ghost use Rattle.craig_aig.specs.Values.{edge_value, true_variables};
+
+use crate::conjunction::{fold, make_gate};
+use crate::search::find;
+use crate::value::{value_in, values_of};
+use crate::{Edge, Level, Node};
+use craig_base::Var;
+use std::alloc::{AllocError, Global};
+use std::marker::Model;
+
+/// An arena of nodes: an and-inverter graph that grows at its end.
+///
+/// Contracts see the list of the nodes, each at its place. Node 0 is the constant false, and the others follow
+/// in the order in which they were made.
+#[derive(Debug, Drop)]
+pub struct Aig {
+    // the nodes from place 1 on, so that an arena of the constant alone takes no memory
+    nodes: Vec<Node>,
+}
+
+impl Model for Aig {
+    ghost use Rattle.std.specs.Prelude.{List, ◌∷◌};
+    ghost use Rattle.craig_aig.specs.Arenas.{IsArena};
+    ghost use Rattle.craig_aig.specs.declared.node.Node.{Node};
+    ghost use Rattle.craig_aig.specs.declared.node.Node.TheVariants.{Constant};
+
+    ghost Value = { List Node };
+
+    ghost view = { λ a. Constant ∷ a.nodes.items };
+
+    ghost invariant = { λ a. IsArena (Constant ∷ a.nodes.items) };
+}
+
+impl Aig {
+    /// The arena of the constant alone, which takes no memory.
+    pub fn new(alloc: Global) -> Aig
+        ensures value { result ≡ Node.Constant ∷ [] }
+        ensures is_arena { IsArena result }
+    {
+        Aig {
+            nodes: Vec::new(alloc),
+        }
+    }
+
+    /// The edge that is true or false everywhere. It is of each arena.
+    pub fn constant(value: bool) -> Edge
+        ensures edge { result ≡ constant_edge value }
+        ensures computes { (s : Assignment) (nodes : List Node) → IsArena nodes → edge_value s nodes result ≡ value }
+        ensures cone { (nodes : List Node) → IsArena nodes → cone nodes result ≡ [] }
+    {
+        Edge::new(0, value)
+    }
+
+    /// The edge that is true exactly where this one is false. It is of the arenas that the given edge is of.
+    pub fn not(edge: Edge) -> Edge
+        ensures edge { result ≡ negation edge }
+        ensures computes { (s : Assignment) (nodes : List Node) → edge_value s nodes result ≡ not (edge_value s nodes edge) }
+        ensures cone { (nodes : List Node) → cone nodes result ≡ cone nodes edge }
+    {
+        edge.not()
+    }
+
+    /// The number of nodes, at least 1.
+    pub fn len(&self) -> usize
+        ensures value { result ≡ length self.now }
+        ensures is_arena { IsArena self.now }
+    {
+        self.nodes.len() + 1
+    }
+
+    /// The node of an edge, whether the edge is negated or not.
+    pub fn node(&self, edge: Edge) -> Node
+        requires { edge.place < length self.now }
+        ensures value { slice_get self.now edge.place ≡ Some result }
+        ensures is_arena { IsArena self.now }
+    {
+        match edge.place() {
+            0 => Node::Constant,
+            place => self.nodes[place - 1],
+        }
+    }
+
+    // The edge of a node that is not the constant: where it stands, or else it is added at the end.
+    // After an error the nodes are as before.
+    fn share(&mut self, node: Node) -> Result<Edge, AllocError>
+        requires placed { IsPlaced (length self.old) node }
+        ensures shared { IfOk result (IsShared self.old node self.new) }
+        ensures extends { Extends self.old self.new }
+        ensures is_arena { IsArena self.new }
+        ensures unchanged { OnErr result (self.new ≡ self.old) }
+    {
+        if let Some(index) = find(self.nodes.as_slice(), &node) {
+            return Ok(Edge::new(index + 1, false));
+        }
+        self.nodes.push(node)?;
+        Ok(Edge::new(self.nodes.len(), false))
+    }
+
+    /// The edge of the input of a dense variable: the one that it has, or a new last node.
+    /// After an error, which only a new input meets, the arena is as before.
+    pub fn input(&mut self, var: Var) -> Result<Edge, AllocError>
+        ensures shared { IfOk result (IsShared self.old (Node.Input var) self.new) }
+        ensures within { IfOk result (λ e. e.place < length self.new) }
+        ensures computes { IfOk result (λ e. (s : Assignment) → edge_value s self.new e ≡ variable_value s var.0) }
+        ensures cone { IfOk result (λ e. cone self.new e ≡ var.0 ∷ []) }
+        ensures extends { Extends self.old self.new }
+        ensures kept { KeepsEdges self.old self.new }
+        ensures is_arena { IsArena self.new }
+        ensures unchanged { OnErr result (self.new ≡ self.old) }
+    {
+        // What holds of each arena is known from here on.
+        let _ = &self.nodes;
+        self.share(Node::Input(var))
+    }
+
+    /// The conjunction of two edges of this arena. It is folded where an operand is constant or the two are
+    /// equal or opposite, it is the gate of these operands where there is one, and else a new last node.
+    /// After an error, which only a new gate meets, the arena is as before.
+    pub fn and(&mut self, left: Edge, right: Edge) -> Result<Edge, AllocError>
+        requires left { left.place < length self.old }
+        requires right { right.place < length self.old }
+        ensures conjunction { IfOk result (IsConjunction self.old left right self.new) }
+        ensures within { IfOk result (λ e. e.place < length self.new) }
+        ensures computes { IfOk result (λ e. (s : Assignment) → edge_value s self.new e ≡ (edge_value s self.old left && edge_value s self.old right)) }
+        ensures cone { IfOk result (ConeWithin self.old left right self.new) }
+        ensures extends { Extends self.old self.new }
+        ensures kept { KeepsEdges self.old self.new }
+        ensures is_arena { IsArena self.new }
+        ensures unchanged { OnErr result (self.new ≡ self.old) }
+    {
+        // What holds of each arena is known from here on.
+        let _ = &self.nodes;
+        match fold(left, right) {
+            Some(edge) => Ok(edge),
+            None => self.share(make_gate(left, right)),
+        }
+    }
+
+    /// The disjunction of two edges of this arena: the negation of the conjunction of their negations.
+    /// After an error the arena is as before.
+    pub fn or(&mut self, left: Edge, right: Edge) -> Result<Edge, AllocError>
+        requires left { left.place < length self.old }
+        requires right { right.place < length self.old }
+        ensures conjunction { IfOk result (λ e. IsConjunction self.old (negation left) (negation right) self.new (negation e)) }
+        ensures within { IfOk result (λ e. e.place < length self.new) }
+        ensures computes { IfOk result (λ e. (s : Assignment) → edge_value s self.new e ≡ (edge_value s self.old left || edge_value s self.old right)) }
+        ensures cone { IfOk result (ConeWithin self.old left right self.new) }
+        ensures extends { Extends self.old self.new }
+        ensures kept { KeepsEdges self.old self.new }
+        ensures is_arena { IsArena self.new }
+        ensures unchanged { OnErr result (self.new ≡ self.old) }
+    {
+        let neither = self.and(Aig::not(left), Aig::not(right))?;
+        Ok(Aig::not(neither))
+    }
+
+    /// The edge that has the value of `yes` where `select` is true, and that of `no` elsewhere, for three edges
+    /// of this arena. After an error all that was there is as before, and gates may be left that nothing names.
+    pub fn mux(&mut self, select: Edge, yes: Edge, no: Edge) -> Result<Edge, AllocError>
+        requires select { select.place < length self.old }
+        requires yes { yes.place < length self.old }
+        requires no { no.place < length self.old }
+        ensures within { IfOk result (λ e. e.place < length self.new) }
+        ensures computes { IfOk result (λ e. (s : Assignment) → edge_value s self.new e ≡ (if edge_value s self.old select then edge_value s self.old yes else edge_value s self.old no)) }
+        ensures cone { IfOk result (λ e. (x : ℕ) → Contains (cone self.new e) x → Contains (cone self.old select) x ⊎ Contains (cone self.old yes) x ⊎ Contains (cone self.old no) x) }
+        ensures extends { Extends self.old self.new }
+        ensures kept { KeepsEdges self.old self.new }
+        ensures is_arena { IsArena self.new }
+    {
+        let chosen = self.and(select, yes)?;
+        let other = self.and(Aig::not(select), no)?;
+        self.or(chosen, other)
+    }
+
+    /// The present number of nodes, to go back to.
+    pub fn level(&self) -> Level
+        ensures value { result ≡ length self.now }
+        ensures is_arena { IsArena self.now }
+    {
+        Level::new(self.len())
+    }
+
+    /// Takes away the nodes at and above the level. The edges that are still of the arena keep their functions.
+    pub fn back_to(&mut self, level: Level)
+        requires { level ≤ length self.old }
+        ensures nodes { self.new ≡ take level self.old }
+        ensures count { length self.new ≡ level }
+        ensures kept { KeepsEdges self.old self.new }
+        ensures is_arena { IsArena self.new }
+    {
+        self.nodes.truncate(level.nodes() - 1);
+    }
+
+    /// The value of an edge of this arena where each variable has the value at its number in `assignment`. A
+    /// variable at or past the length counts as false. Takes time and memory for the nodes up to the edge's.
+    pub fn value(&self, edge: Edge, assignment: &[bool]) -> Result<bool, AllocError>
+        requires { edge.place < length self.now }
+        ensures { IfOk result (λ v. v ≡ edge_value (true_variables assignment.now) self.now edge) }
+    {
+        let alloc = *self.nodes.allocator();
+        let values = values_of(alloc, &self.nodes[..edge.place()], assignment)?;
+        Ok(value_in(values.as_slice(), edge))
+    }
+}
+
+#[cfg(test)]
+mod tests {
+    use super::*;
+    use std::test::Fail;
+
+    // An arena with the inputs of the variables 0 and 1, and their edges.
+    fn two_inputs(alloc: Global) -> Result<(Aig, Edge, Edge), AllocError>
+        ensures first { IfOk result (λ r. r.1.place < length r.0) }
+        ensures second { IfOk result (λ r. r.2.place < length r.0) }
+    {
+        let mut aig = Aig::new(alloc);
+        let x = aig.input(Var(0))?;
+        let y = aig.input(Var(1))?;
+        Ok((aig, x, y))
+    }
+
+    const ASSIGNMENTS: [[bool; 2]; 4] = [
+        [false, false],
+        [false, true],
+        [true, false],
+        [true, true],
+    ];
+
+    #[test]
+    fn one_input_for_each_variable(rt: HostRuntime) -> Result<(), Fail> {
+        let (mut aig, x, y) = two_inputs(rt.alloc())?;
+        assert_eq!(rt; aig.len(), 3);
+        assert_eq!(rt; aig.input(Var(1))?, y);
+        assert_eq!(rt; aig.input(Var(0))?, x);
+        assert_eq!(rt; aig.len(), 3);
+        assert_eq!(rt; aig.node(Aig::constant(true)), Node::Constant);
+        assert_eq!(rt; aig.node(Aig::not(y)), Node::Input(Var(1)));
+        Ok(())
+    }
+
+    #[test]
+    fn conjunctions_are_folded_and_shared(rt: HostRuntime) -> Result<(), Fail> {
+        let (mut aig, x, y) = two_inputs(rt.alloc())?;
+        let both = aig.and(x, y)?;
+        assert_eq!(rt; aig.node(both), Node::Gate(y, x));
+        assert_eq!(rt; aig.and(y, x)?, both);
+        assert_eq!(rt; aig.and(x, Aig::not(x))?, Aig::constant(false));
+        assert_eq!(rt; aig.and(x, x)?, x);
+        assert_eq!(rt; aig.and(Aig::constant(true), y)?, y);
+        assert_eq!(rt; aig.and(y, Aig::constant(false))?, Aig::constant(false));
+        assert_eq!(rt; aig.or(x, Aig::constant(true))?, Aig::constant(true));
+        assert_eq!(rt; aig.len(), 4);
+        Ok(())
+    }
+
+    #[test]
+    fn values_under_all_assignments(rt: HostRuntime) -> Result<(), Fail> {
+        let (mut aig, x, y) = two_inputs(rt.alloc())?;
+        let both = aig.and(x, y)?;
+        let either = aig.or(x, y)?;
+        let chosen = aig.mux(x, y, Aig::constant(false))?;
+        let unequal = aig.mux(x, Aig::not(y), y)?;
+        for [first, second] in ASSIGNMENTS {
+            let assignment = [first, second];
+            assert_eq!(rt; aig.value(both, &assignment)?, first && second);
+            assert_eq!(rt; aig.value(either, &assignment)?, first || second);
+            assert_eq!(rt; aig.value(chosen, &assignment)?, first && second);
+            assert_eq!(rt; aig.value(unequal, &assignment)?, first != second);
+        }
+        Ok(())
+    }
+
+    #[test]
+    fn a_deep_chain_has_a_value_and_goes_away(rt: HostRuntime) -> Result<(), Fail> {
+        let (mut aig, x, y) = two_inputs(rt.alloc())?;
+        let level = aig.level();
+        let mut last = y;
+        'chain: for _ in 0..100000 {
+            last = aig.and(x, Aig::not(last))?;
+        }
+        assert_eq!(rt; aig.len(), 100003);
+        assert_eq!(rt; aig.value(last, &[true, true])?, true);
+        assert_eq!(rt; aig.value(last, &[true, false])?, false);
+        aig.back_to(level);
+        assert_eq!(rt; aig.len(), 3);
+        assert_eq!(rt; aig.value(y, &[false, true])?, true);
+        Ok(())
+    }
+}

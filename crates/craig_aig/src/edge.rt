@@ -1,0 +1,86 @@
+ghost use Rattle.std.specs.Prelude.{◌≡◌, ◌<◌, ◌^◌};
+ghost use Rattle.craig_aig.specs.Edges.{negation};
+
+use std::marker::Model;
+
+/// A node of an arena or its negation, named by the place of the node.
+///
+/// An edge is of an arena where its place is below the number of nodes there.
+#[derive(Clone, Copy, Debug, PartialEq, Eq, Hash)]
+pub struct Edge {
+    // twice the place of the node, and one more where it is negated
+    code: usize,
+}
+
+impl Model for Edge {
+    ghost use Rattle.std.specs.Prelude.{ℕ, ◌<◌, ◌^◌};
+    ghost use Rattle.craig_aig.specs.Edges.{Edge, edge_code, edge_of_code};
+    ghost use Rattle.craig_aig.specs.EdgeCodes.{edge_code-edge_of_code};
+    ghost use Rattle.std.proofs.Common.{ap};
+
+    ghost Value = { Edge };
+
+    ghost view = { λ e. edge_of_code e.code };
+
+    ghost invariant = { λ e. e.code < 2 ^ 64 };
+
+    ghost inverse = { λ e. record { code = edge_code e } };
+
+    ghost inverse_ok = { λ a h. ap (λ (n : ℕ). record { code = n }) (edge_code-edge_of_code a.code) };
+}
+
+impl Edge {
+    // The node at the place, or its negation.
+    pub(crate) fn new(place: usize, negated: bool) -> Edge
+        requires { place < 2 ^ 63 }
+        ensures { result ≡ record { place = place; negated = negated } }
+    {
+        Edge {
+            code: 2 * place + usize::from(negated),
+        }
+    }
+
+    /// The place of the node, counted from 0.
+    pub fn place(self) -> usize
+        ensures value { result ≡ self.place }
+        ensures below { self.place < 2 ^ 63 }
+    {
+        self.code / 2
+    }
+
+    /// Whether the edge is the negation of its node.
+    pub fn negated(self) -> bool
+        ensures { result ≡ self.negated }
+    {
+        self.code % 2 == 1
+    }
+
+    // The edge that is true exactly where this one is false.
+    pub(crate) fn not(self) -> Edge
+        ensures { result ≡ negation self }
+    {
+        Edge {
+            code: self.code ^ 1,
+        }
+    }
+}
+
+#[cfg(test)]
+mod tests {
+    use super::*;
+
+    #[test]
+    fn an_edge_has_its_place_and_sign(rt: HostRuntime) {
+        for (place, negated) in [
+            (0, false),
+            (0, true),
+            (7, true),
+            (9223372036854775807, true),
+        ] {
+            let edge = Edge::new(place, negated);
+            assert_eq!(rt; edge.place(), place);
+            assert_eq!(rt; edge.negated(), negated);
+            assert_eq!(rt; edge.not(), Edge::new(place, !negated));
+        }
+    }
+}

@@ -1,0 +1,70 @@
+-- What a caller of a tracer knows after a step.
+use Rattle.std.proofs.Common.{◌≡◌, ℕ, suc, zero, ◌<◌, Bool, true, false, not, ◌&&◌, ◌||◌, eqb, eq-eqb, List, [], ◌∷◌, ◌++◌, All, Contains, Option, Some, None, refl, ap, sym, ◌∙◌, arith, inl, inr}
+use Rattle.std.specs.Option.{is_some}
+use Rattle.craig_spec.specs.Literal.{Literal, negation}
+use Rattle.craig_spec.specs.Chain.{ChainOk, IsHeld, IsResolvent, Told, ToldStep, nothing_told, with_step}
+use Rattle.craig_proof.specs.Tracer.{Appends, original_step}
+
+-- what was told before the step
+pub before_step : (a b : Option Told) (s : ToldStep) (x : Told) → Appends a b s → b ≡ Some x → (t : Told) × (a ≡ Some t) × (x ≡ with_step t s)
+before_step None b s x appends is = absurd (cc)
+before_step (Some t) b s x appends is = (t, refl, cc)
+
+-- the greatest id is that of the step
+pub greatest_is : (t : Told) (s : ToldStep) (x : Told) (g : ℕ) → x ≡ with_step t s → x.greatest ≡ Some g → g ≡ s.id
+greatest_is t s x g e h = let h2 : Some s.id ≡ Some g = sym (ap (λ (u : Told). u.greatest) e) ∙ h in cc
+
+only_member : (l m : Literal) → Contains (l ∷ []) m → m ≡ l
+only_member l m (zero, within, at) = sym at
+only_member l m (suc k, within, at) = absurd (omega arith)
+
+-- a literal and its negation give the empty clause
+pub IsResolvent-units : (l : Literal) → IsResolvent l (l ∷ []) (negation l ∷ []) []
+IsResolvent-units l = record {
+  first_has = (0, omega arith, refl);
+  second_has = (0, omega arith, refl);
+  no_other = λ m here there. only_member l m here;
+  literals = λ m. (
+    λ (k, within, at). absurd (let no : k < 0 = within in omega arith),
+    λ h. elim h [
+      | inl first ↦ absurd (first.1 (only_member l m first.0))
+      | inr second ↦ absurd (second.1 (only_member (negation l) m second.0))
+    ],
+  );
+}
+
+-- the steps after three, from nothing
+pub three_steps : (z one two x : Told) (s0 s1 s2 : ToldStep) → z ≡ nothing_told → one ≡ with_step z s0 → two ≡ with_step one s1 → x ≡ with_step two s2 → x.steps ≡ s0 ∷ s1 ∷ s2 ∷ []
+three_steps z one two x s0 s1 s2 e0 e1 e2 e3 =
+    ap (λ (u : Told). u.steps) e3 ∙ ap (λ (u : Told). u.steps ++ s2 ∷ []) e2 ∙ ap (λ (u : Told). (u.steps ++ s1 ∷ []) ++ s2 ∷ []) e1 ∙ ap (λ (u : Told). ((u.steps ++ s0 ∷ []) ++ s1 ∷ []) ++ s2 ∷ []) e0
+
+-- the chain of two unit clauses
+pub ChainOk-units : (l m : Literal) (p q : ℕ) (others : List ToldStep) → m ≡ negation l → ChainOk (original_step 0 p (l ∷ []) ∷ original_step 1 q (m ∷ []) ∷ others) [] 0 (record { pivot = l; antecedent = 1 } ∷ [])
+ChainOk-units l m p q others e = record {
+  start = l ∷ [];
+  start_told = refl;
+  chain = (negation l ∷ [], [], ap (λ (n : Literal). Some (n ∷ [])) e, IsResolvent-units l, λ n. (λ h. h, λ h. h));
+}
+
+-- both are held
+pub IsHeld-units : (c d : List Literal) (p q : ℕ) (others : List ToldStep) → All (IsHeld (original_step 0 p c ∷ original_step 1 q d ∷ others)) (0 ∷ 1 ∷ [])
+IsHeld-units c d p q others zero e within = refl
+IsHeld-units c d p q others (suc zero) e within = refl
+IsHeld-units c d p q others (suc (suc k)) e within = absurd (omega arith)
+
+or_true : (b : Bool) → (b || true) ≡ true
+or_true true = refl
+or_true false = refl
+
+held_pushed : (steps : List ToldStep) (s : ToldStep) → s.forgotten ≡ false → IsHeld (steps ++ s ∷ []) s.id
+held_pushed [] s f = rw (eq-eqb s.id s.id refl, f) refl
+held_pushed (r ∷ steps) s f = rw (held_pushed steps s f) (or_true (eqb r.id s.id && not r.forgotten))
+
+-- the last step that was told is held
+pub IsHeld-last : (a b : Option Told) (s : ToldStep) → Appends a b s → is_some a ≡ true → s.forgotten ≡ false → (u : Told) × (b ≡ Some u) × IsHeld u.steps s.id
+IsHeld-last None b s appends some f = absurd (cc)
+IsHeld-last (Some t) b s appends some f = (with_step t s, appends, held_pushed t.steps s f)
+
+-- something was told
+pub is_some-told : (a : Option Told) (t : Told) → a ≡ Some t → is_some a ≡ true
+is_some-told a t is = rw is refl

@@ -1,0 +1,12 @@
+use Rattle.std.proofs.Common.{refl}
+use Rattle.std.proofs.lemmas.List.{map-append}
+use Rattle.craig_spec.specs.Chain.{IsAbove}
+use Rattle.craig_proof.specs.StoredSteps.{told_of}
+use Rattle.craig_proof.proofs.ToldLemmas.{IsStore-with_step}
+use Rattle.craig_proof.proofs.chain_store.ChainStoreTracer.derived.Goals as goal
+
+pub invariant_of-self-2 : goal.invariant_of-self-2
+invariant_of-self-2 c =
+    let above : IsAbove (told_of c.self.inside.greatest c.self.inside.steps.items) c.args.id.0 = rw (← c.self.view_is) at (c.requires.above c.args.self.now.told refl) in
+    let chain = rw (← c.self.view_is) at (c.requires.chain c.args.self.now.told refl) in
+    rw (c.in_ok-push.ensures.items, map-append) (IsStore-with_step (told_of c.self.inside.greatest c.self.inside.steps.items) _ c.self.invariant above (rw (c.in_ok-literals.ensures.items, c.in_ok-chain.ensures.items) chain) (λ no. absurd no))

@@ -1,0 +1,5 @@
+pub mod ChainStore
+pub mod Marks
+pub mod Pair
+pub mod StoredSteps
+pub mod Tracer

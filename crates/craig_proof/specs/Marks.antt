@@ -1,0 +1,21 @@
+-- Marks of steps, one at each place.
+use Rattle.std.specs.Prelude.{◌≡◌, ◌↔◌, ℕ, Bool, false, List, [], ◌∷◌, length, Contains, IsTrue, nat_eq, if◌then◌else◌}
+use Rattle.std.specs.List.{list_any}
+use Rattle.craig_spec.specs.Chain.{ToldStep}
+use Rattle.craig_spec.specs.Needed.{IsClosed, IsNeeded}
+
+-- whether the step of the id is marked
+abbrev pub mark_of : List ToldStep → List Bool → ℕ → Bool
+mark_of [] marks id = false
+mark_of (s ∷ steps) [] id = false
+mark_of (s ∷ steps) (m ∷ marks) id = if nat_eq s.id id then m else mark_of steps marks id
+
+-- one of the steps has the id
+abbrev pub HasId : List ToldStep → ℕ → Type 0
+HasId steps id = IsTrue (list_any (λ s. nat_eq s.id id) steps)
+
+-- exactly the steps that the root needs are marked
+pub record AreNeededMarks (steps : List ToldStep) (root : ℕ) (marks : List Bool) : Type 0 where
+  pub lengths : length marks ≡ length steps
+  pub closed : IsClosed steps (mark_of steps marks)
+  pub needed : (s : ToldStep) → Contains steps s → IsTrue (mark_of steps marks s.id) ↔ IsNeeded steps root s.id

@@ -1,0 +1,22 @@
+-- What a tracer is told, in the terms of the field.
+use Rattle.std.specs.Prelude.{◌≡◌, ℕ, List, Option, map, false}
+use Rattle.std.specs.Option.{option_map}
+use Rattle.craig_spec.specs.Literal.{Clause}
+use Rattle.craig_spec.specs.Chain.{ChainStep, Original, Derived, ToldStep, Told, with_step}
+use Rattle.craig_proof.specs.declared.step.Step.{Step}
+
+-- the steps of a chain after its first antecedent
+abbrev pub chain_of : List Step → List ChainStep
+chain_of steps = map (λ s. record { pivot = s.pivot; antecedent = s.antecedent.0 }) steps
+
+-- the step of an original of the part
+abbrev pub original_step : ℕ → ℕ → Clause → ToldStep
+original_step id part literals = record { id = id; literals = literals; origin = Original part; forgotten = false }
+
+-- the step of a derived clause
+abbrev pub derived_step : ℕ → Clause → ℕ → List Step → ToldStep
+derived_step id literals first rest = record { id = id; literals = literals; origin = Derived first (chain_of rest); forgotten = false }
+
+-- where the meaning was told, the one step stands behind it
+abbrev pub Appends : Option Told → Option Told → ToldStep → Type 0
+Appends before after step = after ≡ option_map (λ t. with_step t step) before

@@ -1,0 +1,14 @@
+ghost use Rattle.std.specs.Prelude.{◌≡◌, ◌<◌, ◌≤◌, ℕ, length, AllPairs, slice_index_or};
+ghost use Rattle.craig_proof.specs.declared.stored_step.StoredStep.{StoredStep};
+
+use crate::stored_step::StoredStep;
+use craig_base::ClauseId;
+
+// The place of the step with the id, in logarithmic time, where there is one.
+pub(crate) fn place_of(steps: &[StoredStep], id: ClauseId) -> usize
+    requires { AllPairs (λ r s. r.id.0 < s.id.0) steps.now }
+    ensures bound { result ≤ length steps.now }
+    ensures found { (k : ℕ) (d : StoredStep) → k < length steps.now → (slice_index_or steps.now k d).id.0 ≡ id.0 → result ≡ k }
+{
+    steps.partition_point(|step| step.id.0 < id.0)
+}

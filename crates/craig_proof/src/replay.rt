@@ -1,0 +1,52 @@
+//! Telling a tracer the marked steps again, from the first to the last.
+ghost use Rattle.std.specs.Prelude.{◌≡◌, ℕ, Some, All, length, map, filter, is_some, OnOk};
+ghost use Rattle.std.specs.Option.{ForSome};
+ghost use Rattle.craig_base.specs.Clauses.{IsNormal};
+ghost use Rattle.craig_spec.specs.Chain.{Told, AreRising, EachStands, StandsOn, IsAbove, IsHeld, antecedents, nothing_told};
+ghost use Rattle.craig_spec.specs.Needed.{IsClosed, IsOriginal, fresh};
+ghost use Rattle.craig_proof.specs.Marks.{mark_of};
+ghost use Rattle.craig_proof.specs.StoredSteps.{OriginalsNormal, origin_of, step_of};
+ghost use Rattle.craig_proof.specs.Tracer.{Appends};
+
+use crate::Tracer;
+use crate::stored_step::{Source, StoredStep};
+use std::alloc::AllocError;
+
+// Tells the one step.
+fn tell<T: Tracer>(step: &StoredStep, into: &mut T) -> Result<(), AllocError>
+    requires above { ForSome (T.told into.old) (λ t. IsAbove t step.now.id.0) }
+    requires normal { IsOriginal (origin_of step.now.source) → IsNormal step.now.literals.items }
+    requires held { ForSome (T.told into.old) (λ t. All (IsHeld t.steps) (antecedents (origin_of step.now.source))) }
+    requires stands { ForSome (T.told into.old) (λ t. StandsOn t.steps step.now.literals.items (origin_of step.now.source)) }
+    ensures told { OnOk result (Appends (T.told into.old) (T.told into.new) (fresh (step_of step.now))) }
+    ensures tells { is_some (T.told into.new) ≡ is_some (T.told into.old) }
+{
+    let literals = step.literals.as_slice();
+    match &step.source {
+        Source::Input(part) => into.original(step.id, *part, literals),
+        Source::Chain(first, rest) => into.derived(step.id, literals, *first, rest.as_slice()),
+    }
+}
+
+// Tells the steps that are marked, first to last.
+pub(crate) fn tell_marked<T: Tracer>(
+    steps: &[StoredStep],
+    marks: &[bool],
+    into: &mut T,
+) -> Result<(), AllocError>
+    requires lengths { length marks.now ≡ length steps.now }
+    requires rising { AreRising (map step_of steps.now) }
+    requires stand { EachStands (map step_of steps.now) }
+    requires normal { OriginalsNormal (map step_of steps.now) }
+    requires closed { IsClosed (map step_of steps.now) (mark_of (map step_of steps.now) marks.now) }
+    requires nothing { ForSome (T.told into.old) (λ t. t ≡ nothing_told) }
+    ensures told { OnOk result (ForSome (T.told into.old) (λ _. (u : Told) × (T.told into.new ≡ Some u) × (u.steps ≡ map fresh (filter (λ s. mark_of (map step_of steps.now) marks.now s.id) (map step_of steps.now))))) }
+    ensures tells { is_some (T.told into.new) ≡ is_some (T.told into.old) }
+{
+    for place in 0..steps.len() {
+        if marks[place] {
+            tell(&steps[place], into)?;
+        }
+    }
+    Ok(())
+}

@@ -1,0 +1,99 @@
+-- Resolution chains, and lists of clauses that are derived from one another by them.
+use Rattle.std.specs.Prelude.{◌≡◌, ◌≢◌, ◌⊎◌, ◌↔◌, ℕ, ◌<◌, ◌≤◌, Bool, true, not, ◌&&◌, List, [], ◌∷◌, ◌++◌, Option, Some, None, length, take, map, nat_eq, All, AllPairs, Contains, IsTrue, slice_index_or, if◌then◌else◌}
+use Rattle.std.specs.List.{list_any}
+use Rattle.craig_spec.specs.Literal.{Literal, Clause, negation}
+
+-- one resolution of a chain: the literal that is resolved on, and the id of the clause that has its negation
+pub record ChainStep : Type 0 where
+  pub pivot : Literal
+  pub antecedent : ℕ
+
+-- where a clause comes from: a part of the input, or a chain that begins at the clause of this id
+pub data Origin : Type 0 where
+  Original : ℕ → Origin
+  Derived : ℕ → List ChainStep → Origin
+
+-- a clause under its id, and whether the id is forgotten, so that no later chain names it
+pub record ToldStep : Type 0 where
+  pub id : ℕ
+  pub literals : Clause
+  pub origin : Origin
+  pub forgotten : Bool
+
+-- the greatest id that was told, if any, and the steps that are kept, by rising id
+pub record Told : Type 0 where
+  pub greatest : Option ℕ
+  pub steps : List ToldStep
+
+-- nothing was told yet
+abbrev pub nothing_told : Told
+nothing_told = record { greatest = None; steps = [] }
+
+-- one step more
+abbrev pub with_step : Told → ToldStep → Told
+with_step t s = record { greatest = Some s.id; steps = t.steps ++ s ∷ [] }
+
+-- the step, forgotten if it has the id
+abbrev pub forgotten_at : ℕ → ToldStep → ToldStep
+forgotten_at id s = if nat_eq s.id id then record { id = s.id; literals = s.literals; origin = s.origin; forgotten = true } else s
+
+-- the id is forgotten from now on
+abbrev pub without_id : ℕ → Told → Told
+without_id id t = record { greatest = t.greatest; steps = map (forgotten_at id) t.steps }
+
+-- the clause that was told under the id
+abbrev pub clause_told : List ToldStep → ℕ → Option Clause
+clause_told [] id = None
+clause_told (s ∷ steps) id = if nat_eq s.id id then Some s.literals else clause_told steps id
+
+-- a step of the id is kept, and the id isn't forgotten
+abbrev pub IsHeld : List ToldStep → ℕ → Type 0
+IsHeld steps id = IsTrue (list_any (λ s. nat_eq s.id id && not s.forgotten) steps)
+
+-- the id is above all that were told
+abbrev pub IsAbove : Told → ℕ → Type 0
+IsAbove t id = (g : ℕ) → t.greatest ≡ Some g → g < id
+
+-- the ids that a step is derived from
+abbrev pub antecedents : Origin → List ℕ
+antecedents (Original part) = []
+antecedents (Derived first rest) = first ∷ map (λ s. s.antecedent) rest
+
+-- the resolvent of two clauses on a literal of the first
+pub record IsResolvent (pivot : Literal) (c d resolvent : Clause) : Type 0 where
+  pub first_has : Contains c pivot
+  pub second_has : Contains d (negation pivot)
+  -- no other literal of the one is negated in the other
+  pub no_other : (l : Literal) → Contains c l → Contains d (negation l) → l ≡ pivot
+  -- the literals of both without the two
+  pub literals : (l : Literal) → Contains resolvent l ↔ ((Contains c l × (l ≢ pivot)) ⊎ (Contains d l × (l ≢ negation pivot)))
+
+-- the clause, resolved with the antecedents in turn, has these literals in the end
+abbrev pub IsChain : List ToldStep → Clause → List ChainStep → Clause → Type 0
+IsChain steps c [] last = (l : Literal) → Contains c l ↔ Contains last l
+IsChain steps c (s ∷ rest) last = (d : Clause) × (resolvent : Clause) × (clause_told steps s.antecedent ≡ Some d) × IsResolvent s.pivot c d resolvent × IsChain steps resolvent rest last
+
+-- the chain from the clause of the first id along the rest gives these literals
+pub record ChainOk (steps : List ToldStep) (literals : Clause) (first : ℕ) (rest : List ChainStep) : Type 0 where
+  pub start : Clause
+  pub start_told : clause_told steps first ≡ Some start
+  pub chain : IsChain steps start rest literals
+
+-- a derived clause stands on the steps before it
+abbrev pub StandsOn : List ToldStep → Clause → Origin → Type 0
+StandsOn before literals (Original part) = Unit {0}
+StandsOn before literals (Derived first rest) = ChainOk before literals first rest
+
+-- each step stands on those before it
+abbrev pub EachStands : List ToldStep → Type 0
+EachStands steps = (k : ℕ) (d : ToldStep) → k < length steps → StandsOn (take k steps) (slice_index_or steps k d).literals (slice_index_or steps k d).origin
+
+-- the ids rise
+abbrev pub AreRising : List ToldStep → Type 0
+AreRising steps = AllPairs (λ r s. r.id < s.id) steps
+
+-- a list of steps by rising id, each on those before it, and the greatest id of them
+pub record IsTold (t : Told) : Type 0 where
+  pub rising : AreRising t.steps
+  pub greatest : All (λ s. (g : ℕ) × (t.greatest ≡ Some g) × (s.id ≤ g)) t.steps
+  pub stand : EachStands t.steps

@@ -2,7 +2,7 @@
 use Rattle.std.proofs.Common.{◌≡◌, ℕ, suc, zero, ◌<◌, Bool, true, false, not, ◌&&◌, ◌||◌, eqb, eq-eqb, List, [], ◌∷◌, ◌++◌, All, Contains, Option, Some, None, refl, ap, sym, ◌∙◌, arith, inl, inr}
 use Rattle.std.specs.Option.{is_some}
 use Rattle.craig_spec.specs.Literal.{Literal, negation}
-use Rattle.craig_spec.specs.Chain.{ChainOk, IsHeld, IsResolvent, Told, ToldStep, nothing_told, with_step}
+use Rattle.craig_spec.specs.Chain.{ChainOk, clause_told, IsUnforgotten, IsResolvent, Told, ToldStep, nothing_told, with_step}
 use Rattle.craig_proof.specs.Tracer.{Appends, original_step}
 
 -- what was told before the step
@@ -39,31 +39,31 @@ three_steps z one two x s0 s1 s2 e0 e1 e2 e3 =
     ap (λ (u : Told). u.steps) e3 ∙ ap (λ (u : Told). u.steps ++ s2 ∷ []) e2 ∙ ap (λ (u : Told). (u.steps ++ s1 ∷ []) ++ s2 ∷ []) e1 ∙ ap (λ (u : Told). ((u.steps ++ s0 ∷ []) ++ s1 ∷ []) ++ s2 ∷ []) e0
 
 -- the chain of two unit clauses
-pub ChainOk-units : (l m : Literal) (p q : ℕ) (others : List ToldStep) → m ≡ negation l → ChainOk (original_step 0 p (l ∷ []) ∷ original_step 1 q (m ∷ []) ∷ others) [] 0 (record { pivot = l; antecedent = 1 } ∷ [])
+pub ChainOk-units : (l m : Literal) (p q : ℕ) (others : List ToldStep) → m ≡ negation l → ChainOk (clause_told (original_step 0 p (l ∷ []) ∷ original_step 1 q (m ∷ []) ∷ others)) [] 0 (record { pivot = l; antecedent = 1 } ∷ [])
 ChainOk-units l m p q others e = record {
   start = l ∷ [];
-  start_told = refl;
+  start_is = refl;
   chain = (negation l ∷ [], [], ap (λ (n : Literal). Some (n ∷ [])) e, IsResolvent-units l, λ n. (λ h. h, λ h. h));
 }
 
--- both are held
-pub IsHeld-units : (c d : List Literal) (p q : ℕ) (others : List ToldStep) → All (IsHeld (original_step 0 p c ∷ original_step 1 q d ∷ others)) (0 ∷ 1 ∷ [])
-IsHeld-units c d p q others zero e within = refl
-IsHeld-units c d p q others (suc zero) e within = refl
-IsHeld-units c d p q others (suc (suc k)) e within = absurd (omega arith)
+-- both are not forgotten
+pub IsUnforgotten-units : (c d : List Literal) (p q : ℕ) (others : List ToldStep) → All (IsUnforgotten (original_step 0 p c ∷ original_step 1 q d ∷ others)) (0 ∷ 1 ∷ [])
+IsUnforgotten-units c d p q others zero e within = refl
+IsUnforgotten-units c d p q others (suc zero) e within = refl
+IsUnforgotten-units c d p q others (suc (suc k)) e within = absurd (omega arith)
 
 or_true : (b : Bool) → (b || true) ≡ true
 or_true true = refl
 or_true false = refl
 
-held_pushed : (steps : List ToldStep) (s : ToldStep) → s.forgotten ≡ false → IsHeld (steps ++ s ∷ []) s.id
-held_pushed [] s f = rw (eq-eqb s.id s.id refl, f) refl
-held_pushed (r ∷ steps) s f = rw (held_pushed steps s f) (or_true (eqb r.id s.id && not r.forgotten))
+unforgotten_pushed : (steps : List ToldStep) (s : ToldStep) → s.forgotten ≡ false → IsUnforgotten (steps ++ s ∷ []) s.id
+unforgotten_pushed [] s f = rw (eq-eqb s.id s.id refl, f) refl
+unforgotten_pushed (r ∷ steps) s f = rw (unforgotten_pushed steps s f) (or_true (eqb r.id s.id && not r.forgotten))
 
--- the last step that was told is held
-pub IsHeld-last : (a b : Option Told) (s : ToldStep) → Appends a b s → is_some a ≡ true → s.forgotten ≡ false → (u : Told) × (b ≡ Some u) × IsHeld u.steps s.id
-IsHeld-last None b s appends some f = absurd (cc)
-IsHeld-last (Some t) b s appends some f = (with_step t s, appends, held_pushed t.steps s f)
+-- the last step that was told is not forgotten
+pub IsUnforgotten-last : (a b : Option Told) (s : ToldStep) → Appends a b s → is_some a ≡ true → s.forgotten ≡ false → (u : Told) × (b ≡ Some u) × IsUnforgotten u.steps s.id
+IsUnforgotten-last None b s appends some f = absurd (cc)
+IsUnforgotten-last (Some t) b s appends some f = (with_step t s, appends, unforgotten_pushed t.steps s f)
 
 -- something was told
 pub is_some-told : (a : Option Told) (t : Told) → a ≡ Some t → is_some a ≡ true

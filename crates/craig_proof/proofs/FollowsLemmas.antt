@@ -75,7 +75,7 @@ resolvent_true a p c d r resolved first second =
     let t = true_literal a c first in resolvent-first a p c d r resolved second t.0 t.1 t.2 (same_literals t.0 p)
 
 -- so is what a chain gives
-chain_true : (a : Assignment) (steps : List ToldStep) (c : Clause) (rest : List ChainStep) (last : Clause) → IsChain steps c rest last → ((x : ℕ) (d : Clause) → Contains (map (λ s. s.antecedent) rest) x → clause_told steps x ≡ Some d → clause_value a d ≡ true) → clause_value a c ≡ true → clause_value a last ≡ true
+chain_true : (a : Assignment) (steps : List ToldStep) (c : Clause) (rest : List ChainStep) (last : Clause) → IsChain (clause_told steps) c rest last → ((x : ℕ) (d : Clause) → Contains (map (λ s. s.antecedent) rest) x → clause_told steps x ≡ Some d → clause_value a d ≡ true) → clause_value a c ≡ true → clause_value a last ≡ true
 chain_true a steps c [] last chain known h =
     let t = true_literal a c h in true_clause a last t.0 ((chain t.0).0 t.1) t.2
 chain_true a steps c (s ∷ rest) last (d, r, e, resolved, more) known h =
@@ -117,7 +117,7 @@ module _ (steps : List ToldStep) (a : Assignment) (told : (k : ℕ) (d : ToldSte
   true_by_origin k s (Derived first rest) is within at stands earlier holds =
       let known = antecedents_true k s within at earlier holds in
       let ids : antecedents s.origin ≡ first ∷ map (λ q. q.antecedent) rest = rw is refl in
-      let start : clause_value a stands.start ≡ true = known first stands.start (rw ids (Contains-front first (map (λ q. q.antecedent) rest))) stands.start_told in
+      let start : clause_value a stands.start ≡ true = known first stands.start (rw ids (Contains-front first (map (λ q. q.antecedent) rest))) stands.start_is in
       chain_true a (take k steps) stands.start rest s.literals stands.chain (λ x c here e. known x c (rw ids (Contains-later first (map (λ q. q.antecedent) rest) x here)) e) start
 
   true_up_to : (n k : ℕ) (d : ToldStep) → k < n → k < length steps → TrueAt steps a (get_or steps k d)

@@ -1,7 +1,10 @@
 pub mod CallerLemmas
+pub mod ChainLemmas
 pub mod FollowsLemmas
 pub mod MarksLemmas
 pub mod PairLemmas
+pub mod ReclaimLemmas
 pub mod ReplayLemmas
+pub mod RootLemmas
 pub mod StoredLemmas
 pub mod ToldLemmas

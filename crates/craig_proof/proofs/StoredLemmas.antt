@@ -4,12 +4,12 @@ use Rattle.std.specs.List.Sorted.{IsPartitionedBy, IsPartitionPoint}
 use Rattle.std.proofs.lemmas.List.{get_or_default, length-map, map-set}
 use Rattle.std.proofs.lemmas.Bool.Decides.{nat_tests}
 use Rattle.std.proofs.Math.ListN.{get_or-map}
-use Rattle.craig_spec.specs.Chain.{ToldStep, IsHeld, without_id}
+use Rattle.craig_spec.specs.Chain.{ToldStep, IsUnforgotten, without_id}
 use Rattle.craig_base.specs.declared.clause_id.ClauseId.{ClauseId}
 use Rattle.craig_proof.specs.Marks.{HasId}
 use Rattle.craig_proof.specs.StoredSteps.{step_of, told_of}
 use Rattle.craig_proof.specs.declared.stored_step.StoredStep.{StoredStep}
-use Rattle.craig_proof.proofs.ToldLemmas.{HasId-held, has_place, set-forgotten}
+use Rattle.craig_proof.proofs.ToldLemmas.{HasId-unforgotten, has_place, set-forgotten}
 
 -- the ids rise in the store as they do in what it tells
 pub rising_stored : (xs : List StoredStep) → AllPairs (λ r s. r.id < s.id) (map step_of xs) → AllPairs (λ r s. r.id.0 < s.id.0) xs
@@ -49,8 +49,8 @@ place_has (x ∷ xs) id r found has =
     rw is (within, at)
 
 -- so does one that isn't forgotten
-pub place_held : (xs : List StoredStep) (id r : ℕ) → ((k : ℕ) (d : StoredStep) → k < length xs → (get_or xs k d).id.0 ≡ id → r ≡ k) → IsHeld (map step_of xs) id → (r < length xs) × ((d : StoredStep) → (get_or xs r d).id.0 ≡ id)
-place_held xs id r found held = place_has xs id r found (HasId-held (map step_of xs) id held)
+pub place_unforgotten : (xs : List StoredStep) (id r : ℕ) → ((k : ℕ) (d : StoredStep) → k < length xs → (get_or xs k d).id.0 ≡ id → r ≡ k) → IsUnforgotten (map step_of xs) id → (r < length xs) × ((d : StoredStep) → (get_or xs r d).id.0 ≡ id)
+place_unforgotten xs id r found held = place_has xs id r found (HasId-unforgotten (map step_of xs) id held)
 
 -- what the step at a place says
 pub stored_at : (xs : List StoredStep) (r : ℕ) (x : StoredStep) (d : ToldStep) → r < length xs → x ≡ get_or xs r x → get_or (map step_of xs) r d ≡ step_of x

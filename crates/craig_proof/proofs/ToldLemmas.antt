@@ -8,11 +8,20 @@ use Rattle.std.proofs.Math.Seq.{take-append_seam, get_or-append_seam}
 use Rattle.std.proofs.lemmas.List.Quantifiers.{all_pairs_push}
 use Rattle.std.proofs.lemmas.List.Elements.{All-push}
 use Rattle.craig_spec.specs.Literal.{Clause}
-use Rattle.craig_spec.specs.Chain.{ChainStep, Origin, Original, Derived, ToldStep, Told, with_step, forgotten_at, without_id, clause_told, IsHeld, IsAbove, IsChain, StandsOn, IsTold}
+use Rattle.craig_spec.specs.Chain.{Origin, ToldStep, Told, nothing_told, with_step, forgotten_at, without_id, clause_told, IsUnforgotten, IsAbove, StandsOn, IsTold}
 use Rattle.craig_spec.specs.Needed.{Reclaims, IsOriginal}
 use Rattle.craig_base.specs.Clauses.{IsNormal}
 use Rattle.craig_proof.specs.Marks.{HasId}
 use Rattle.craig_proof.specs.StoredSteps.{IsStore}
+use Rattle.craig_proof.proofs.ChainLemmas.{StandsOn-same}
+
+-- at first nothing is told
+pub IsTold-nothing : IsTold nothing_told
+IsTold-nothing = record {
+  rising = λ i j d before within. absurd (omega arith);
+  greatest = λ k d within. absurd (omega arith);
+  stand = λ k d within. absurd (omega arith);
+}
 
 -- a step more
 module _ (t : Told) (s : ToldStep) (told : IsTold t) (above : IsAbove t s.id) (stands : StandsOn t.steps s.literals s.origin) where
@@ -51,17 +60,8 @@ clause_told-forgotten id x (s ∷ steps) =
       | false ↦ rw (clause_told-forgotten id x steps) refl
     ]
 
-IsChain-forgotten : (id : ℕ) (steps : List ToldStep) (c : Clause) (rest : List ChainStep) (last : Clause) → IsChain steps c rest last → IsChain (map (forgotten_at id) steps) c rest last
-IsChain-forgotten id steps c [] last h = h
-IsChain-forgotten id steps c (s ∷ rest) last (d, r, e, resolved, more) = (d, r, clause_told-forgotten id s.antecedent steps ∙ e, resolved, IsChain-forgotten id steps r rest last more)
-
 StandsOn-forgotten : (id : ℕ) (steps : List ToldStep) (c : Clause) (origin : Origin) → StandsOn steps c origin → StandsOn (map (forgotten_at id) steps) c origin
-StandsOn-forgotten id steps c (Original part) h = h
-StandsOn-forgotten id steps c (Derived first rest) h = record {
-  start = h.start;
-  start_told = clause_told-forgotten id first steps ∙ h.start_told;
-  chain = IsChain-forgotten id steps h.start rest c h.chain;
-}
+StandsOn-forgotten id steps c origin = StandsOn-same steps (map (forgotten_at id) steps) c origin (λ x here. clause_told-forgotten id x steps)
 
 same_but_mark : (id : ℕ) (s : ToldStep) → ((forgotten_at id s).id ≡ s.id) × ((forgotten_at id s).literals ≡ s.literals) × ((forgotten_at id s).origin ≡ s.origin)
 same_but_mark id s =
@@ -97,17 +97,17 @@ filter-all (s ∷ steps) = ap (λ rest. s ∷ rest) (filter-all steps)
 
 -- it is allowed to give up nothing
 pub Reclaims-nothing : (t : Told) → Reclaims t t
-Reclaims-nothing t = record { greatest = refl; kept = λ _. true; steps = filter-all t.steps; needed = λ s id here held needed. refl }
+Reclaims-nothing t = record { greatest = refl; kept = λ _. true; steps = filter-all t.steps; closed = λ s r here there left ante. refl; needed = λ s id here unforgotten needed. refl }
 
-held_place_cases : (s : ToldStep) (steps : List ToldStep) (id : ℕ) (b : Bool) → eqb s.id id ≡ b → (b && not s.forgotten || list_any (λ q. eqb q.id id && not q.forgotten) steps) ≡ true → (IsHeld steps id → (k : ℕ) × (k < length steps) × ((d : ToldStep) → (get_or steps k d).id ≡ id)) → (k : ℕ) × (k < length (s ∷ steps)) × ((d : ToldStep) → (get_or (s ∷ steps) k d).id ≡ id)
-held_place_cases s steps id true e h later = (0, omega arith, λ d. eqb-true s.id id e)
-held_place_cases s steps id false e h later = let p = later h in (suc p.0, omega arith, p.2)
+unforgotten_place-cases : (s : ToldStep) (steps : List ToldStep) (id : ℕ) (b : Bool) → eqb s.id id ≡ b → (b && not s.forgotten || list_any (λ q. eqb q.id id && not q.forgotten) steps) ≡ true → (IsUnforgotten steps id → (k : ℕ) × (k < length steps) × ((d : ToldStep) → (get_or steps k d).id ≡ id)) → (k : ℕ) × (k < length (s ∷ steps)) × ((d : ToldStep) → (get_or (s ∷ steps) k d).id ≡ id)
+unforgotten_place-cases s steps id true e h later = (0, omega arith, λ d. eqb-true s.id id e)
+unforgotten_place-cases s steps id false e h later = let p = later h in (suc p.0, omega arith, p.2)
 
 -- where an id stands that isn't forgotten
-pub held_place : (steps : List ToldStep) (id : ℕ) → IsHeld steps id → (k : ℕ) × (k < length steps) × ((d : ToldStep) → (get_or steps k d).id ≡ id)
-held_place [] id h = absurd (cc)
-held_place (s ∷ steps) id h =
-    held_place_cases s steps id (eqb s.id id) refl h (held_place steps id)
+pub unforgotten_place : (steps : List ToldStep) (id : ℕ) → IsUnforgotten steps id → (k : ℕ) × (k < length steps) × ((d : ToldStep) → (get_or steps k d).id ≡ id)
+unforgotten_place [] id h = absurd (cc)
+unforgotten_place (s ∷ steps) id h =
+    unforgotten_place-cases s steps id (eqb s.id id) refl h (unforgotten_place steps id)
 
 unmarked-none : (id : ℕ) (steps : List ToldStep) → ((k : ℕ) (d : ToldStep) → k < length steps → id < (get_or steps k d).id) → map (forgotten_at id) steps ≡ steps
 unmarked-none id [] h = refl
@@ -163,5 +163,5 @@ HasId-at (s ∷ steps) id zero within at = rw (eq-eqb s.id id (at s)) refl
 HasId-at (s ∷ steps) id (suc k) within at = rw (HasId-at steps id k (omega arith) at) (or_true (eqb s.id id))
 
 -- an id that isn't forgotten stands somewhere
-pub HasId-held : (steps : List ToldStep) (id : ℕ) → IsHeld steps id → HasId steps id
-HasId-held steps id h = let p = held_place steps id h in HasId-at steps id p.0 p.1 p.2
+pub HasId-unforgotten : (steps : List ToldStep) (id : ℕ) → IsUnforgotten steps id → HasId steps id
+HasId-unforgotten steps id h = let p = unforgotten_place steps id h in HasId-at steps id p.0 p.1 p.2

@@ -1,5 +1,5 @@
 -- Marks of steps, one at each place.
-use Rattle.std.specs.Prelude.{◌≡◌, ◌↔◌, ℕ, Bool, false, List, [], ◌∷◌, length, Contains, IsTrue, nat_eq, if◌then◌else◌}
+use Rattle.std.specs.Prelude.{◌≡◌, ◌↔◌, ℕ, Bool, false, List, [], ◌∷◌, Option, Some, None, length, Contains, IsTrue, nat_eq, if◌then◌else◌}
 use Rattle.std.specs.List.{list_any}
 use Rattle.craig_spec.specs.Chain.{ToldStep}
 use Rattle.craig_spec.specs.Needed.{IsClosed, IsNeeded}
@@ -9,6 +9,12 @@ abbrev pub mark_of : List ToldStep → List Bool → ℕ → Bool
 mark_of [] marks id = false
 mark_of (s ∷ steps) [] id = false
 mark_of (s ∷ steps) (m ∷ marks) id = if nat_eq s.id id then m else mark_of steps marks id
+
+-- the id of the last step
+abbrev pub last_id : List ToldStep → Option ℕ
+last_id [] = None
+last_id (s ∷ []) = Some s.id
+last_id (s ∷ r ∷ steps) = last_id (r ∷ steps)
 
 -- one of the steps has the id
 abbrev pub HasId : List ToldStep → ℕ → Type 0

@@ -13,6 +13,10 @@ pub record PairView (T U : Type 0) : Type 0 where
 abbrev pub pair_told : Option Told → Option Told → Bool → Option Told
 pair_told first second dead = if dead then option_map (λ _. nothing_told) (option_or first second) else option_or first second
 
+-- what no call of either changes
+abbrev pub pair_kept : {A B : Type 0} → A → B → A × B
+pair_kept a b = (a, b)
+
 -- where both tell their meanings, these are equal
 pub record Agree (first second : Option Told) : Type 0 where
   pub same : (t u : Told) → first ≡ Some t → second ≡ Some u → t ≡ u

@@ -1,7 +1,7 @@
 ghost use Rattle.std.specs.Prelude.{◌≡◌, Some, None, true, false, All, is_some, OnOk, OnErr, IsErr};
 ghost use Rattle.std.specs.Option.{ForSome, option_map};
 ghost use Rattle.craig_base.specs.Clauses.{IsNormal};
-ghost use Rattle.craig_spec.specs.Chain.{Told, IsTold, IsAbove, IsHeld, ChainOk, Derived, antecedents, nothing_told, with_step, without_id};
+ghost use Rattle.craig_spec.specs.Chain.{Told, IsTold, IsAbove, IsUnforgotten, ChainOk, Derived, antecedents, clause_told, nothing_told, with_step, without_id};
 ghost use Rattle.craig_spec.specs.Needed.{AllFollow, IsNeededPart, Reclaims};
 ghost use Rattle.craig_proof.specs.Tracer.{chain_of, original_step, derived_step, Appends};
 
@@ -55,10 +55,11 @@ impl ChainStore {
     /// It takes memory for a mark a step, and apart from what `into` does its time grows with the length of the
     /// store, and with that of the needed chains times the logarithm of the store's.
     pub fn replay<T: Tracer>(&self, root: ClauseId, into: &mut T) -> Result<(), AllocError>
-        requires root { IsHeld self.now.told.steps root.0 }
+        requires root { IsUnforgotten self.now.told.steps root.0 }
         requires nothing { ForSome (T.told into.old) (λ t. t ≡ nothing_told) }
-        ensures told { OnOk result (ForSome (T.told into.old) (λ _. (u : Told) × (T.told into.new ≡ Some u) × IsNeededPart self.now.told.steps root.0 u.steps)) }
+        ensures told { OnOk result (ForSome (T.told into.old) (λ _. (u : Told) × (T.told into.new ≡ Some u) × (u.greatest ≡ Some root.0) × IsNeededPart self.now.told.steps root.0 u.steps)) }
         ensures tells { is_some (T.told into.new) ≡ is_some (T.told into.old) }
+        ensures kept { T.kept into.new ≡ T.kept into.old }
         ensures refused { self.now.dead ≡ true → IsErr result }
     {
         if self.dead {
@@ -81,6 +82,8 @@ impl ChainStore {
 
 impl Tracer for ChainStore {
     ghost told = { λ s. Some s.told };
+
+    ghost kept = { λ _. tt };
 
     fn original(&mut self, id: ClauseId, part: Part, lits: &[Lit]) -> Result<(), AllocError>
         requires above { ForSome (Some self.old.told) (λ t. IsAbove t id.0) }
@@ -117,8 +120,8 @@ impl Tracer for ChainStore {
         rest: &[Step],
     ) -> Result<(), AllocError>
         requires above { ForSome (Some self.old.told) (λ t. IsAbove t id.0) }
-        requires held { ForSome (Some self.old.told) (λ t. All (IsHeld t.steps) (antecedents (Derived first.0 (chain_of rest.now)))) }
-        requires chain { ForSome (Some self.old.told) (λ t. ChainOk t.steps lits.now first.0 (chain_of rest.now)) }
+        requires unforgotten { ForSome (Some self.old.told) (λ t. All (IsUnforgotten t.steps) (antecedents (Derived first.0 (chain_of rest.now)))) }
+        requires chain { ForSome (Some self.old.told) (λ t. ChainOk (clause_told t.steps) lits.now first.0 (chain_of rest.now)) }
         ensures told { OnOk result (Appends (Some self.old.told) (Some self.new.told) (derived_step id.0 lits.now first.0 rest.now)) }
         ensures tells { is_some (Some self.new.told) ≡ is_some (Some self.old.told) }
         ensures unchanged { OnErr result (self.new.told ≡ self.old.told) }
@@ -145,7 +148,7 @@ impl Tracer for ChainStore {
     }
 
     fn forget(&mut self, id: ClauseId)
-        requires { ForSome (Some self.old.told) (λ t. IsHeld t.steps id.0) }
+        requires { ForSome (Some self.old.told) (λ t. IsUnforgotten t.steps id.0) }
         ensures told { Some self.new.told ≡ option_map (without_id id.0) (Some self.old.told) }
         ensures dead { self.new.dead ≡ self.old.dead }
     {
@@ -170,7 +173,7 @@ mod tests {
     // Tells `[v0]` of part 1, `[~v0]` of part 2, `[v5]` of part 1, and the empty clause of the first two.
     fn tell_refutation<T: Tracer>(tracer: &mut T) -> Result<(), AllocError>
         requires { ForSome (T.told tracer.old) (λ t. t ≡ nothing_told) }
-        ensures told { OnOk result (ForSome (T.told tracer.old) (λ _. (u : Told) × (T.told tracer.new ≡ Some u) × IsHeld u.steps 3)) }
+        ensures told { OnOk result (ForSome (T.told tracer.old) (λ _. (u : Told) × (T.told tracer.new ≡ Some u) × IsUnforgotten u.steps 3)) }
     {
         let v0 = Lit::new(Var(0), false);
         let v5 = Lit::new(Var(5), false);

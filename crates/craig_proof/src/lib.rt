@@ -7,6 +7,7 @@
 #![tactic(auto)]
 
 mod chain_store;
+mod laws;
 mod marks;
 mod pair;
 mod place;
@@ -18,6 +19,7 @@ mod stored_step;
 mod tracer;
 
 pub use chain_store::ChainStore;
+pub use laws::{chain_over_same_clauses, told_clauses_follow, told_steps_stand};
 pub use pair::Pair;
 pub use silent::Silent;
 pub use step::Step;

@@ -2,9 +2,9 @@
 ghost use Rattle.std.specs.Prelude.{◌≡◌, ℕ, Some, All, length, map, filter, is_some, OnOk};
 ghost use Rattle.std.specs.Option.{ForSome};
 ghost use Rattle.craig_base.specs.Clauses.{IsNormal};
-ghost use Rattle.craig_spec.specs.Chain.{Told, AreRising, EachStands, StandsOn, IsAbove, IsHeld, antecedents, nothing_told};
-ghost use Rattle.craig_spec.specs.Needed.{IsClosed, IsOriginal, fresh};
-ghost use Rattle.craig_proof.specs.Marks.{mark_of};
+ghost use Rattle.craig_spec.specs.Chain.{Told, AreRising, EachStands, StandsOn, IsAbove, IsUnforgotten, antecedents, nothing_told};
+ghost use Rattle.craig_spec.specs.Needed.{IsClosed, IsOriginal, unforgotten};
+ghost use Rattle.craig_proof.specs.Marks.{last_id, mark_of};
 ghost use Rattle.craig_proof.specs.StoredSteps.{OriginalsNormal, origin_of, step_of};
 ghost use Rattle.craig_proof.specs.Tracer.{Appends};
 
@@ -16,10 +16,11 @@ use std::alloc::AllocError;
 fn tell<T: Tracer>(step: &StoredStep, into: &mut T) -> Result<(), AllocError>
     requires above { ForSome (T.told into.old) (λ t. IsAbove t step.now.id.0) }
     requires normal { IsOriginal (origin_of step.now.source) → IsNormal step.now.literals.items }
-    requires held { ForSome (T.told into.old) (λ t. All (IsHeld t.steps) (antecedents (origin_of step.now.source))) }
+    requires unforgotten { ForSome (T.told into.old) (λ t. All (IsUnforgotten t.steps) (antecedents (origin_of step.now.source))) }
     requires stands { ForSome (T.told into.old) (λ t. StandsOn t.steps step.now.literals.items (origin_of step.now.source)) }
-    ensures told { OnOk result (Appends (T.told into.old) (T.told into.new) (fresh (step_of step.now))) }
+    ensures told { OnOk result (Appends (T.told into.old) (T.told into.new) (unforgotten (step_of step.now))) }
     ensures tells { is_some (T.told into.new) ≡ is_some (T.told into.old) }
+    ensures kept { T.kept into.new ≡ T.kept into.old }
 {
     let literals = step.literals.as_slice();
     match &step.source {
@@ -40,8 +41,9 @@ pub(crate) fn tell_marked<T: Tracer>(
     requires normal { OriginalsNormal (map step_of steps.now) }
     requires closed { IsClosed (map step_of steps.now) (mark_of (map step_of steps.now) marks.now) }
     requires nothing { ForSome (T.told into.old) (λ t. t ≡ nothing_told) }
-    ensures told { OnOk result (ForSome (T.told into.old) (λ _. (u : Told) × (T.told into.new ≡ Some u) × (u.steps ≡ map fresh (filter (λ s. mark_of (map step_of steps.now) marks.now s.id) (map step_of steps.now))))) }
+    ensures told { OnOk result (ForSome (T.told into.old) (λ _. (u : Told) × (T.told into.new ≡ Some u) × (u.steps ≡ map unforgotten (filter (λ s. mark_of (map step_of steps.now) marks.now s.id) (map step_of steps.now))) × (u.greatest ≡ last_id u.steps))) }
     ensures tells { is_some (T.told into.new) ≡ is_some (T.told into.old) }
+    ensures kept { T.kept into.new ≡ T.kept into.old }
 {
     for place in 0..steps.len() {
         if marks[place] {

@@ -11,6 +11,8 @@ pub struct Silent;
 impl Tracer for Silent {
     ghost told = { λ _. None };
 
+    ghost kept = { λ _. tt };
+
     fn original(&mut self, _id: ClauseId, _part: Part, _lits: &[Lit]) -> Result<(), AllocError> {
         Ok(())
     }

@@ -1,7 +1,7 @@
 ghost use Rattle.std.specs.Prelude.{◌≡◌, Option, All, is_some, OnOk};
 ghost use Rattle.std.specs.Option.{ForSome, option_map};
 ghost use Rattle.craig_base.specs.Clauses.{IsNormal};
-ghost use Rattle.craig_spec.specs.Chain.{Told, IsAbove, IsHeld, ChainOk, Derived, antecedents, without_id};
+ghost use Rattle.craig_spec.specs.Chain.{Told, IsAbove, IsUnforgotten, ChainOk, Derived, antecedents, clause_told, without_id};
 ghost use Rattle.craig_spec.specs.Needed.{Reclaims};
 ghost use Rattle.craig_proof.specs.Tracer.{chain_of, original_step, derived_step, Appends};
 
@@ -13,17 +13,23 @@ use std::alloc::AllocError;
 ///
 /// A tracer has a meaning, which it may tell to proofs: the greatest id that it was told, and the steps that it
 /// keeps. One that tells it goes on telling it, and one that doesn't never begins to. After an error nothing more
-/// is said of the meaning, and the caller tells the tracer no more.
+/// is said of the meaning, and the caller tells the tracer no more. It may also name what no call changes, not even
+/// one that fails.
 pub trait Tracer {
     // what was told, where the tracer tells it
     ghost told: { Self → Option Told };
+    // what no call changes
+    ghost Kept: { Type 0 } = { Unit {0} };
+
+    ghost kept: { Self → Self.Kept };
 
     /// Tells a clause of a part of the input. The ids rise from call to call, and the clause is normal.
     fn original(&mut self, id: ClauseId, part: Part, lits: &[Lit]) -> Result<(), AllocError>
         requires above { ForSome (told self.old) (λ t. IsAbove t id.0) }
         requires normal { IsNormal lits.now }
         ensures told { OnOk result (Appends (told self.old) (told self.new) (original_step id.0 part.0 lits.now)) }
-        ensures tells { is_some (told self.new) ≡ is_some (told self.old) };
+        ensures tells { is_some (told self.new) ≡ is_some (told self.old) }
+        ensures kept { kept self.new ≡ kept self.old };
 
     /// Tells a clause that follows by a chain: the clause of `first` is resolved in turn with those of `rest`, each
     /// on its pivot, and the last resolvent has the literals `lits`, in any order. No antecedent is forgotten.
@@ -35,18 +41,21 @@ pub trait Tracer {
         rest: &[Step],
     ) -> Result<(), AllocError>
         requires above { ForSome (told self.old) (λ t. IsAbove t id.0) }
-        requires held { ForSome (told self.old) (λ t. All (IsHeld t.steps) (antecedents (Derived first.0 (chain_of rest.now)))) }
-        requires chain { ForSome (told self.old) (λ t. ChainOk t.steps lits.now first.0 (chain_of rest.now)) }
+        requires unforgotten { ForSome (told self.old) (λ t. All (IsUnforgotten t.steps) (antecedents (Derived first.0 (chain_of rest.now)))) }
+        requires chain { ForSome (told self.old) (λ t. ChainOk (clause_told t.steps) lits.now first.0 (chain_of rest.now)) }
         ensures told { OnOk result (Appends (told self.old) (told self.new) (derived_step id.0 lits.now first.0 rest.now)) }
-        ensures tells { is_some (told self.new) ≡ is_some (told self.old) };
+        ensures tells { is_some (told self.new) ≡ is_some (told self.old) }
+        ensures kept { kept self.new ≡ kept self.old };
 
     /// Says that the clause will be no antecedent and no root any more. It takes no memory.
     fn forget(&mut self, id: ClauseId)
-        requires { ForSome (told self.old) (λ t. IsHeld t.steps id.0) }
-        ensures { told self.new ≡ option_map (without_id id.0) (told self.old) };
+        requires { ForSome (told self.old) (λ t. IsUnforgotten t.steps id.0) }
+        ensures told { told self.new ≡ option_map (without_id id.0) (told self.old) }
+        ensures kept { kept self.new ≡ kept self.old };
 
     /// Lets go of steps that no clause needs that isn't forgotten, or of none. It takes no memory.
     fn reclaim(&mut self)
         ensures told { (t : Told) → told self.old ≡ Some t → (u : Told) × (told self.new ≡ Some u) × Reclaims t u }
-        ensures tells { is_some (told self.new) ≡ is_some (told self.old) };
+        ensures tells { is_some (told self.new) ≡ is_some (told self.old) }
+        ensures kept { kept self.new ≡ kept self.old };
 }

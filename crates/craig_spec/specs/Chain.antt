@@ -1,4 +1,5 @@
--- Resolution chains, and lists of clauses that are derived from one another by them.
+-- Resolution chains, and lists of clauses that are derived from one another by them: the trace of Zhang and Malik,
+-- "Validating SAT Solvers Using an Independent Resolution-Based Checker" (DATE 2003).
 use Rattle.std.specs.Prelude.{◌≡◌, ◌≢◌, ◌⊎◌, ◌↔◌, ℕ, ◌<◌, ◌≤◌, Bool, true, not, ◌&&◌, List, [], ◌∷◌, ◌++◌, Option, Some, None, length, take, map, nat_eq, All, AllPairs, Contains, IsTrue, slice_index_or, if◌then◌else◌}
 use Rattle.std.specs.List.{list_any}
 use Rattle.craig_spec.specs.Literal.{Literal, Clause, negation}
@@ -47,8 +48,8 @@ clause_told [] id = None
 clause_told (s ∷ steps) id = if nat_eq s.id id then Some s.literals else clause_told steps id
 
 -- a step of the id is kept, and the id isn't forgotten
-abbrev pub IsHeld : List ToldStep → ℕ → Type 0
-IsHeld steps id = IsTrue (list_any (λ s. nat_eq s.id id && not s.forgotten) steps)
+abbrev pub IsUnforgotten : List ToldStep → ℕ → Type 0
+IsUnforgotten steps id = IsTrue (list_any (λ s. nat_eq s.id id && not s.forgotten) steps)
 
 -- the id is above all that were told
 abbrev pub IsAbove : Told → ℕ → Type 0
@@ -68,21 +69,29 @@ pub record IsResolvent (pivot : Literal) (c d resolvent : Clause) : Type 0 where
   -- the literals of both without the two
   pub literals : (l : Literal) → Contains resolvent l ↔ ((Contains c l × (l ≢ pivot)) ⊎ (Contains d l × (l ≢ negation pivot)))
 
--- the clause, resolved with the antecedents in turn, has these literals in the end
-abbrev pub IsChain : List ToldStep → Clause → List ChainStep → Clause → Type 0
-IsChain steps c [] last = (l : Literal) → Contains c l ↔ Contains last l
-IsChain steps c (s ∷ rest) last = (d : Clause) × (resolvent : Clause) × (clause_told steps s.antecedent ≡ Some d) × IsResolvent s.pivot c d resolvent × IsChain steps resolvent rest last
+-- the two have the same literals, in any order
+abbrev pub SameLiterals : Clause → Clause → Type 0
+SameLiterals c d = (l : Literal) → Contains c l ↔ Contains d l
+
+-- the clause, resolved with the antecedents in turn, has these literals in the end; the look-up gives the clause of an id
+abbrev pub IsChain : (ℕ → Option Clause) → Clause → List ChainStep → Clause → Type 0
+IsChain clause_of c [] last = SameLiterals c last
+IsChain clause_of c (s ∷ rest) last = (d : Clause) × (resolvent : Clause) × (clause_of s.antecedent ≡ Some d) × IsResolvent s.pivot c d resolvent × IsChain clause_of resolvent rest last
 
 -- the chain from the clause of the first id along the rest gives these literals
-pub record ChainOk (steps : List ToldStep) (literals : Clause) (first : ℕ) (rest : List ChainStep) : Type 0 where
+pub record ChainOk (clause_of : ℕ → Option Clause) (literals : Clause) (first : ℕ) (rest : List ChainStep) : Type 0 where
   pub start : Clause
-  pub start_told : clause_told steps first ≡ Some start
-  pub chain : IsChain steps start rest literals
+  pub start_is : clause_of first ≡ Some start
+  pub chain : IsChain clause_of start rest literals
+
+-- wherever the first look-up gives a clause of the id, the second gives one with the same literals
+abbrev pub GivesSame : (ℕ → Option Clause) → (ℕ → Option Clause) → ℕ → Type 0
+GivesSame f g x = (d : Clause) → f x ≡ Some d → (e : Clause) × (g x ≡ Some e) × SameLiterals d e
 
 -- a derived clause stands on the steps before it
 abbrev pub StandsOn : List ToldStep → Clause → Origin → Type 0
 StandsOn before literals (Original part) = Unit {0}
-StandsOn before literals (Derived first rest) = ChainOk before literals first rest
+StandsOn before literals (Derived first rest) = ChainOk (clause_told before) literals first rest
 
 -- each step stands on those before it
 abbrev pub EachStands : List ToldStep → Type 0

@@ -1,7 +1,7 @@
 -- The steps that a clause rests on.
 use Rattle.std.specs.Prelude.{◌≡◌, ◌↔◌, ℕ, Bool, false, List, Contains, IsTrue, map, filter}
 use Rattle.craig_spec.specs.Truth.{Assignment, clause_value}
-use Rattle.craig_spec.specs.Chain.{Origin, Original, Derived, ToldStep, Told, antecedents, IsHeld}
+use Rattle.craig_spec.specs.Chain.{Origin, Original, Derived, ToldStep, Told, antecedents, IsUnforgotten}
 
 -- with each step the set has the antecedents of the step
 abbrev pub IsClosed : List ToldStep → (ℕ → Bool) → Type 0
@@ -12,12 +12,12 @@ abbrev pub IsNeeded : List ToldStep → ℕ → ℕ → Type 0
 IsNeeded steps root id = (p : ℕ → Bool) → IsTrue (p root) → IsClosed steps p → IsTrue (p id)
 
 -- the step, not forgotten
-abbrev pub fresh : ToldStep → ToldStep
-fresh s = record { id = s.id; literals = s.literals; origin = s.origin; forgotten = false }
+abbrev pub unforgotten : ToldStep → ToldStep
+unforgotten s = record { id = s.id; literals = s.literals; origin = s.origin; forgotten = false }
 
 -- the part is the steps that the root needs, in order, and none of them is forgotten
 abbrev pub IsNeededPart : List ToldStep → ℕ → List ToldStep → Type 0
-IsNeededPart steps root part = (p : ℕ → Bool) × ((s : ToldStep) → Contains steps s → IsTrue (p s.id) ↔ IsNeeded steps root s.id) × (part ≡ map fresh (filter (λ s. p s.id) steps))
+IsNeededPart steps root part = (p : ℕ → Bool) × ((s : ToldStep) → Contains steps s → IsTrue (p s.id) ↔ IsNeeded steps root s.id) × (part ≡ map unforgotten (filter (λ s. p s.id) steps))
 
 -- the step is an original
 abbrev pub IsOriginal : Origin → Type 0
@@ -37,4 +37,6 @@ pub record Reclaims (before after : Told) : Type 0 where
   pub greatest : after.greatest ≡ before.greatest
   pub kept : ToldStep → Bool
   pub steps : after.steps ≡ filter kept before.steps
-  pub needed : (s : ToldStep) (id : ℕ) → Contains before.steps s → IsHeld before.steps id → IsNeeded before.steps id s.id → IsTrue (kept s)
+  -- with each step that is left its antecedents are
+  pub closed : (s r : ToldStep) → Contains before.steps s → Contains before.steps r → IsTrue (kept s) → Contains (antecedents s.origin) r.id → IsTrue (kept r)
+  pub needed : (s : ToldStep) (id : ℕ) → Contains before.steps s → IsUnforgotten before.steps id → IsNeeded before.steps id s.id → IsTrue (kept s)

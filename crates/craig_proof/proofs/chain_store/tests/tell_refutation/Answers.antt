@@ -1,7 +1,7 @@
 use Rattle.std.proofs.Common.{◌≡◌, [], ◌∷◌, refl, ◌∙◌, arith}
 use Rattle.std.proofs.lemmas.Result.{on_ok_weaker}
 use Rattle.craig_proof.specs.Tracer.{original_step}
-use Rattle.craig_proof.proofs.CallerLemmas.{before_step, greatest_is, three_steps, ChainOk-units, IsHeld-units, IsHeld-last, is_some-told}
+use Rattle.craig_proof.proofs.CallerLemmas.{before_step, greatest_is, three_steps, ChainOk-units, IsUnforgotten-units, IsUnforgotten-last, is_some-told}
 use Rattle.craig_proof.proofs.chain_store.tests.tell_refutation.Goals as goal
 
 pub original-requires-2-clause-above : goal.original-requires-2-clause-above
@@ -22,13 +22,13 @@ derived-requires-clause-above g c = λ x is k h.
     let e : k ≡ 2 = greatest_is b.0 _ x k b.2 h in
     omega arith
 
-pub derived-requires-clause-held : goal.derived-requires-clause-held
-derived-requires-clause-held g c = λ x is.
+pub derived-requires-clause-unforgotten : goal.derived-requires-clause-unforgotten
+derived-requires-clause-unforgotten g c = λ x is.
     let two = before_step _ _ _ x c.in_ok-original-3.ensures.told is in
     let one = before_step _ _ _ two.0 c.in_ok-original-2.ensures.told two.1 in
     let zero = before_step _ _ _ one.0 c.in_ok-original.ensures.told one.1 in
     let steps = three_steps zero.0 one.0 two.0 x _ _ _ (c.requires zero.0 zero.1) zero.2 one.2 two.2 in
-    rw steps (IsHeld-units (c.new-v0.result ∷ []) (c.not.result ∷ []) 1 2 (original_step 2 1 (c.new-v5.result ∷ []) ∷ []))
+    rw steps (IsUnforgotten-units (c.new-v0.result ∷ []) (c.not.result ∷ []) 1 2 (original_step 2 1 (c.new-v5.result ∷ []) ∷ []))
 
 pub derived-requires-clause-chain : goal.derived-requires-clause-chain
 derived-requires-clause-chain g c = λ x is.
@@ -36,10 +36,10 @@ derived-requires-clause-chain g c = λ x is.
     let one = before_step _ _ _ two.0 c.in_ok-original-2.ensures.told two.1 in
     let zero = before_step _ _ _ one.0 c.in_ok-original.ensures.told one.1 in
     let steps = three_steps zero.0 one.0 two.0 x _ _ _ (c.requires zero.0 zero.1) zero.2 one.2 two.2 in
-    rw steps (ChainOk-units c.new-v0.result c.not.result 1 2 _ c.not.ensures)
+    rw steps (ChainOk-units c.new-v0.result c.not.result 1 2 (original_step 2 1 (c.new-v5.result ∷ []) ∷ []) c.not.ensures)
 
 pub returns : goal.returns
 returns g c = record {
   told = on_ok_weaker c.derived.result (λ told t is.
-      IsHeld-last _ _ _ told (c.in_ok-original-3.ensures.tells ∙ c.in_ok-original-2.ensures.tells ∙ c.in_ok-original.ensures.tells ∙ is_some-told _ t is) refl) c.derived.ensures.told;
+      IsUnforgotten-last _ _ _ told (c.in_ok-original-3.ensures.tells ∙ c.in_ok-original-2.ensures.tells ∙ c.in_ok-original.ensures.tells ∙ is_some-told _ t is) refl) c.derived.ensures.told;
 }

@@ -1,24 +1,24 @@
 use Rattle.std.proofs.Common.{All}
-use Rattle.craig_spec.specs.Chain.{Derived, IsAbove, IsHeld, ChainOk, antecedents}
+use Rattle.craig_spec.specs.Chain.{Derived, IsAbove, IsUnforgotten, ChainOk, antecedents, clause_told}
 use Rattle.craig_proof.specs.Tracer.{chain_of}
 use Rattle.craig_proof.proofs.PairLemmas.{first_meets, second_meets, Agree-appended}
 use Rattle.craig_proof.proofs.pair.PairTracer.derived.Goals as goal
 
-pub derived-requires-clause-held : goal.derived-requires-clause-held
-derived-requires-clause-held g c =
-    first_meets (λ t. All (IsHeld t.steps) (antecedents (Derived c.args.first.0 (chain_of c.args.rest.now)))) _ _ c.self.inside.dead c.if-self.false (rw (← c.self.view_is) at c.requires.held)
+pub derived-requires-clause-unforgotten : goal.derived-requires-clause-unforgotten
+derived-requires-clause-unforgotten g c =
+    first_meets (λ t. All (IsUnforgotten t.steps) (antecedents (Derived c.args.first.0 (chain_of c.args.rest.now)))) _ _ c.self.inside.dead c.if-self.false (rw (← c.self.view_is) at c.requires.unforgotten)
 
 pub derived-requires-2-clause-above : goal.derived-requires-2-clause-above
 derived-requires-2-clause-above g c =
     second_meets (λ t. IsAbove t c.args.id.0) _ _ c.self.inside.dead c.if-self.false (c.self.invariant c.if-self.false) (rw (← c.self.view_is) at c.requires.above)
 
-pub derived-requires-2-clause-held : goal.derived-requires-2-clause-held
-derived-requires-2-clause-held g c =
-    second_meets (λ t. All (IsHeld t.steps) (antecedents (Derived c.args.first.0 (chain_of c.args.rest.now)))) _ _ c.self.inside.dead c.if-self.false (c.self.invariant c.if-self.false) (rw (← c.self.view_is) at c.requires.held)
+pub derived-requires-2-clause-unforgotten : goal.derived-requires-2-clause-unforgotten
+derived-requires-2-clause-unforgotten g c =
+    second_meets (λ t. All (IsUnforgotten t.steps) (antecedents (Derived c.args.first.0 (chain_of c.args.rest.now)))) _ _ c.self.inside.dead c.if-self.false (c.self.invariant c.if-self.false) (rw (← c.self.view_is) at c.requires.unforgotten)
 
 pub derived-requires-2-clause-chain : goal.derived-requires-2-clause-chain
 derived-requires-2-clause-chain g c =
-    second_meets (λ t. ChainOk t.steps c.args.lits.now c.args.first.0 (chain_of c.args.rest.now)) _ _ c.self.inside.dead c.if-self.false (c.self.invariant c.if-self.false) (rw (← c.self.view_is) at c.requires.chain)
+    second_meets (λ t. ChainOk (clause_told t.steps) c.args.lits.now c.args.first.0 (chain_of c.args.rest.now)) _ _ c.self.inside.dead c.if-self.false (c.self.invariant c.if-self.false) (rw (← c.self.view_is) at c.requires.chain)
 
 pub invariant_of-self-2 : goal.invariant_of-self-2
 invariant_of-self-2 g c = λ e.

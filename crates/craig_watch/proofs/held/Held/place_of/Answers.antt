@@ -1,0 +1,35 @@
+use Rattle.std.proofs.Common.{◌<◌, length, arith, sym, ◌∙◌}
+use Rattle.std.proofs.lemmas.Option.{slice_get-get_or}
+use Rattle.craig_watch.proofs.TrailLemmas.{any_entry}
+use Rattle.craig_watch.proofs.HeldFieldsLemmas.{assigned-known, place-within, place-assigned, entry_of-place}
+use Rattle.craig_watch.proofs.held.Held.place_of.Goals as goal
+
+pub index-requires : goal.index-requires
+index-requires c =
+    let h = c.self.inside in
+    let known : c.args.var.0 < length h.places.items = assigned-known h.entries.items (length h.places.items) c.args.var.0 c.self.invariant.1.known (rw (← c.self.view_is) at c.requires) in
+    omega (arith, h.places.ok.0)
+
+pub returns-in-Some-clause-within : goal.returns-in-Some-clause-within
+returns-in-Some-clause-within c =
+    let h = c.self.inside in
+    let known : c.args.var.0 < length h.places.items = assigned-known h.entries.items (length h.places.items) c.args.var.0 c.self.invariant.1.known (rw (← c.self.view_is) at c.requires) in
+    rw (← c.self.view_is) (place-within h.places.items h.entries.items c.args.var.0 c.in-Some.place c.index.result.now c.self.invariant.0.table known (sym c.index.ensures ∙ c.in-Some.is))
+
+pub returns-in-Some-clause-entry : goal.returns-in-Some-clause-entry
+returns-in-Some-clause-entry c =
+    let h = c.self.inside in
+    let known : c.args.var.0 < length h.places.items = assigned-known h.entries.items (length h.places.items) c.args.var.0 c.self.invariant.1.known (rw (← c.self.view_is) at c.requires) in
+    let there = sym c.index.ensures ∙ c.in-Some.is in
+    let within : c.in-Some.place < length h.entries.items = place-within h.places.items h.entries.items c.args.var.0 c.in-Some.place c.index.result.now c.self.invariant.0.table known there in
+    rw (← c.self.view_is) (slice_get-get_or h.entries.items c.in-Some.place any_entry within ∙ sym (entry_of-place h.places.items h.entries.items c.args.var.0 c.in-Some.place c.index.result.now any_entry c.self.invariant.0.table c.self.invariant.1.distinct known there))
+
+pub returns-in-None-clause-within : goal.returns-in-None-clause-within
+returns-in-None-clause-within c =
+    let h = c.self.inside in
+    absurd (place-assigned h.places.items h.entries.items c.args.var.0 c.index.result.now c.self.invariant.0.table (rw (← c.self.view_is) at c.requires) (sym c.index.ensures ∙ c.in-None.is))
+
+pub returns-in-None-clause-entry : goal.returns-in-None-clause-entry
+returns-in-None-clause-entry c =
+    let h = c.self.inside in
+    absurd (place-assigned h.places.items h.entries.items c.args.var.0 c.index.result.now c.self.invariant.0.table (rw (← c.self.view_is) at c.requires) (sym c.index.ensures ∙ c.in-None.is))

@@ -1,0 +1,119 @@
+-- Held clauses and their trail.
+use Rattle.std.specs.Prelude.{◌≡◌, ◌≢◌, ◌⊎◌, ℕ, ◌<◌, ◌≤◌, Bool, false, [], ◌∷◌, ◌++◌, Option, Some, IsSome, length, take, All, AllPairs, Contains, slice_index_or}
+use Rattle.std.specs.Option.{option_map}
+use Rattle.craig_spec.specs.Literal.{Literal, Clause}
+use Rattle.craig_base.specs.declared.clause_id.ClauseId.{ClauseId}
+use Rattle.craig_base.specs.Arena.{ArenaView, clause_at}
+use Rattle.craig_base.specs.Clauses.{IsNormal}
+use Rattle.craig_watch.specs.declared.trail_entry.TrailEntry.{TrailEntry}
+use Rattle.craig_watch.specs.declared.value.Value.TheVariants.{True, False, Free}
+use Rattle.craig_watch.specs.Trail.{Trail, entry_of, value_under, IsFalse, part_up_to, decisions, AreLevels}
+
+-- the clauses, how many variables are known, the trail, the present level, and whether memory was refused
+pub record HeldView : Type 0 where
+  pub arena : ArenaView
+  pub vars : ℕ
+  pub trail : Trail
+  pub level : ℕ
+  pub dead : Bool
+
+-- the literals of the clause that is held under the id
+abbrev pub held_clause : ArenaView → ℕ → Option Clause
+held_clause a id = option_map (λ c. c.literals) (clause_at a id)
+
+-- two different literals of the clause are free
+abbrev pub HasTwoFree : Trail → Clause → Type 0
+HasTwoFree t c = (l m : Literal) × Contains c l × Contains c m × (l ≢ m) × (value_under t l ≡ Free) × (value_under t m ≡ Free)
+
+-- a literal of the clause is true
+abbrev pub HasTrue : Trail → Clause → Type 0
+HasTrue t c = (l : Literal) × Contains c l × (value_under t l ≡ True)
+
+-- the clause has a true literal or two free ones, so it neither is false nor forces a literal
+abbrev pub IsSettled : Trail → Clause → Type 0
+IsSettled t c = HasTrue t c ⊎ HasTwoFree t c
+
+-- propagation is complete: every held clause has a true literal or two free ones
+abbrev pub IsComplete : ArenaView → Trail → Type 0
+IsComplete a t = (id : ℕ) (c : Clause) → held_clause a id ≡ Some c → IsSettled t c
+
+-- propagation was complete at every level below this one
+abbrev pub IsCompleteBelow : ArenaView → Trail → ℕ → Type 0
+IsCompleteBelow a t level = (l : ℕ) → l < level → IsComplete a (part_up_to l t)
+
+-- the clause has the literal, and its other literals are false under the trail
+pub record Forces (t : Trail) (c : Clause) (l : Literal) : Type 0 where
+  pub has : Contains c l
+  pub others : (m : Literal) → Contains c m → m ≢ l → IsFalse t m
+
+-- the reason, if there is one, is held and forces the literal under what was assigned earlier
+abbrev pub IsJustified : ArenaView → Trail → TrailEntry → Type 0
+IsJustified a earlier e = (id : ClauseId) → e.reason ≡ Some id → (c : Clause) × (held_clause a id.0 ≡ Some c) × Forces earlier c e.literal
+
+-- each literal on the trail is a decision or justified by its reason
+abbrev pub EachIsJustified : ArenaView → Trail → Type 0
+EachIsJustified a t = (k : ℕ) (d : TrailEntry) → k < length t → IsJustified a (take k t) (slice_index_or t k d)
+
+-- the clauses are normal clauses over known variables
+abbrev pub AreClauses : ArenaView → ℕ → Type 0
+AreClauses a vars = (id : ℕ) (c : Clause) → held_clause a id ≡ Some c → IsNormal c × All (λ l. l.var < vars) c
+
+-- what is true of held clauses and their trail after every call
+pub record IsConsistent (h : HeldView) : Type 0 where
+  -- the literals of each variable fit their type
+  pub few : h.vars ≤ 2147483648
+  pub clauses : AreClauses h.arena h.vars
+  pub known : All (λ e. e.literal.var < h.vars) h.trail
+  -- no variable is assigned twice
+  pub distinct : AllPairs (λ e f. e.literal.var ≢ f.literal.var) h.trail
+  pub levels : AreLevels h.trail
+  -- the present level is the number of decisions
+  pub level : h.level ≡ decisions h.trail
+  pub justified : EachIsJustified h.arena h.trail
+  pub complete : IsCompleteBelow h.arena h.trail h.level
+
+-- one literal more on the trail
+abbrev pub with_entry : HeldView → TrailEntry → HeldView
+with_entry h e = record h { trail = h.trail ++ e ∷ []; level = decisions (h.trail ++ e ∷ []) }
+
+-- no clause is held, no variable known and nothing assigned
+abbrev pub nothing_held : HeldView
+nothing_held = record { arena = record { clauses = []; given = 0 }; vars = 0; trail = []; level = 0; dead = false }
+
+-- two different literals of the clause are not false
+abbrev pub HasTwoNotFalse : Trail → Clause → Type 0
+HasTwoNotFalse t c = (l m : Literal) × Contains c l × Contains c m × (l ≢ m) × (value_under t l ≢ False) × (value_under t m ≢ False)
+
+-- the first literal is free, all others are false, and one of them was assigned at the level
+pub record IsAsserting (t : Trail) (level : ℕ) (c : Clause) : Type 0 where
+  pub first : Literal
+  pub rest : Clause
+  pub parts : c ≡ first ∷ rest
+  pub free : value_under t first ≡ Free
+  pub others : All (IsFalse t) rest
+  pub last : Literal
+  pub has_last : Contains rest last
+  pub last_entry : TrailEntry
+  pub last_is : entry_of t last.var ≡ Some last_entry
+  pub last_level : last_entry.level ≡ level
+
+-- a clause that may be held: it breaks no level below the present one
+abbrev pub MayBeHeld : HeldView → Clause → Type 0
+MayBeHeld h c = (h.level ≡ 0) ⊎ (HasTwoNotFalse h.trail c ⊎ IsAsserting h.trail h.level c)
+
+-- the same clauses, and the trail lengthened by literals of the present level that clauses forced
+pub record IsLengthened (old new : HeldView) : Type 0 where
+  pub added : Trail
+  pub trail : new ≡ record old { trail = old.trail ++ added }
+  pub level : All (λ e. e.level ≡ old.level) added
+  pub reason : All (λ e. IsSome e.reason) added
+
+-- the clause is held, and all its literals are false
+abbrev pub IsFalsified : HeldView → ℕ → Type 0
+IsFalsified h id = (c : Clause) × (held_clause h.arena id ≡ Some c) × All (IsFalse h.trail) c
+
+-- the last literal is gone from the trail
+pub record IsTaken (old new : HeldView) : Type 0 where
+  pub last : TrailEntry
+  pub trail : old.trail ≡ new.trail ++ last ∷ []
+  pub rest : new ≡ record old { trail = new.trail; level = decisions new.trail }

@@ -1,0 +1,4 @@
+pub mod Trail
+pub mod Held
+pub mod HeldFields
+pub mod Standing

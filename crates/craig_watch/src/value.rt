@@ -1,0 +1,10 @@
+/// What a trail says of a literal.
+#[derive(Clone, Copy, Debug, PartialEq, Eq)]
+pub enum Value {
+    /// The literal is on the trail.
+    True,
+    /// Its negation is on the trail.
+    False,
+    /// Its variable is not assigned.
+    Free,
+}

@@ -11,7 +11,8 @@ use Rattle.std.proofs.lemmas.List.Sorted.{Contains-permutation, IsPermutation-sy
 use Rattle.std.proofs.lemmas.List.{get_or_default}
 use Rattle.std.proofs.lemmas.Map.Keys.{Less-from_sorted}
 use Rattle.craig_spec.specs.Literal.{Literal, Clause, negation}
-use Rattle.craig_base.specs.Clauses.{IsTautology, IsNormal, IsAscending, SameMembers, SameVariableAt}
+use Rattle.craig_spec.specs.Chain.{SameLiterals}
+use Rattle.craig_base.specs.Clauses.{IsTautology, IsNormal, IsAscending, SameVariableAt}
 use Rattle.craig_base.specs.Literals.{literal_code}
 use Rattle.craig_base.proofs.LiteralsLemmas.{literal_code-injective, literal_code-near, negation-from_codes, negation-from_differs, negation-differs}
 
@@ -61,8 +62,8 @@ vars_apart-IsNormal c normal i j d before within e =
     normal.not_tautology (get_or c i d, Contains-get_or c i d (omega arith), subst (Contains c) (sym n) (Contains-get_or c j d within))
 
 -- whether a clause is a tautology depends on its members alone
-pub IsTautology-SameMembers : (c d : Clause) → SameMembers c d → IsTautology c ↔ IsTautology d
-IsTautology-SameMembers c d same =
+pub IsTautology-SameLiterals : (c d : Clause) → SameLiterals c d → IsTautology c ↔ IsTautology d
+IsTautology-SameLiterals c d same =
     (λ (l, here, there). (l, (same l).0 here, (same (negation l)).0 there), λ (l, here, there). (l, (same l).1 here, (same (negation l)).1 there))
 
 -- the order of literals, and the test whether two are the same
@@ -100,8 +101,8 @@ IsAscending-dedup c sorted i j d before within =
     below-Less _ _ (Less-from_sorted code_cmp (dedup code_eq c) i j d strict before within)
 
 -- a sort and the removal of repeats keep the members
-pub SameMembers-dedup : (c d : Clause) → IsPermutation c d → SameMembers c (dedup code_eq d)
-SameMembers-dedup c d moved l = (
+pub SameLiterals-dedup : (c d : Clause) → IsPermutation c d → SameLiterals c (dedup code_eq d)
+SameLiterals-dedup c d moved l = (
   λ h. Contains-dedup code_eq-equiv code_eq-same d l (Contains-permutation c d l moved h),
   λ h. Contains-permutation d c l (IsPermutation-sym c d moved) (Contains-from_dedup code_eq d l h),
 )

@@ -2,6 +2,7 @@
 use Rattle.std.specs.Prelude.{◌≡◌, ℕ, ◌+◌, ◌<◌, not, List, [], ◌∷◌, ◌++◌, Option, Some, None, nat_eq, map, filter, All, AllPairs, IsSome, if◌then◌else◌}
 use Rattle.std.specs.Option.{option_map, option_map_or}
 use Rattle.craig_spec.specs.Literal.{Clause}
+use Rattle.craig_spec.specs.Chain.{SameLiterals}
 use Rattle.craig_base.specs.declared.flags.Flags.{Flags}
 
 -- a clause in the order in which its literals are kept, with its flags
@@ -19,7 +20,7 @@ pub record ArenaView : Type 0 where
   pub clauses : List LiveClause
   pub given : ℕ
 
--- the clauses of different rising ids, each of which was given
+-- the ids of the clauses rise, and each of them was given
 pub record IsArena (a : ArenaView) : Type 0 where
   pub rising : AllPairs (λ c d. c.id < d.id) a.clauses
   pub below : All (λ c. c.id < a.given) a.clauses
@@ -36,6 +37,14 @@ clause_at a id = clause_of a.clauses id
 -- a clause is live under the id
 abbrev pub IsLive : ArenaView → ℕ → Type 0
 IsLive a id = IsSome (clause_at a id)
+
+-- the literals of the clause that is live under the id
+abbrev pub literals_of : ArenaView → ℕ → Option Clause
+literals_of a id = option_map (λ c. c.literals) (clause_at a id)
+
+-- the literals of each live clause, by rising id
+abbrev pub clauses_of : ArenaView → List Clause
+clauses_of a = map (λ c. c.clause.literals) a.clauses
 
 -- the literals of the clause, and none where it isn't live
 abbrev pub literals_at : ArenaView → ℕ → Clause
@@ -68,3 +77,14 @@ ChangesOnly old new id now = (k : ℕ) → clause_at new k ≡ (if nat_eq k id t
 -- the clause that was live under the one id is changed now, and under every other id is what was live before
 abbrev pub ChangesClause : ArenaView → ArenaView → ℕ → (FlaggedClause → FlaggedClause) → Type 0
 ChangesClause old new id f = ChangesOnly old new id (option_map f (clause_at old id))
+
+-- the same literals in any order, and the same flags
+pub record IsReordered (c d : FlaggedClause) : Type 0 where
+  pub literals : SameLiterals c.literals d.literals
+  pub flags : d.flags ≡ c.flags
+
+-- the same clauses under the same ids, where the literals of a clause may stand in another order
+pub record OnlyReorders (old new : ArenaView) : Type 0 where
+  pub given : new.given ≡ old.given
+  pub stays : (id : ℕ) (c : FlaggedClause) → clause_at old id ≡ Some c → (d : FlaggedClause) × (clause_at new id ≡ Some d) × IsReordered c d
+  pub stood : (id : ℕ) (d : FlaggedClause) → clause_at new id ≡ Some d → (c : FlaggedClause) × (clause_at old id ≡ Some c) × IsReordered c d

@@ -1,5 +1,5 @@
 -- Tautologies, and clauses without repeats.
-use Rattle.std.specs.Prelude.{◌≡◌, ◌≢◌, ℕ, ◌+◌, ◌<◌, ◌↔◌, Contains, AllPairs, slice_index_or}
+use Rattle.std.specs.Prelude.{◌≡◌, ◌≢◌, ℕ, ◌+◌, ◌<◌, Contains, AllPairs, slice_index_or}
 use Rattle.craig_spec.specs.Literal.{Literal, Clause, negation}
 use Rattle.craig_base.specs.Literals.{literal_code}
 
@@ -15,10 +15,6 @@ pub record IsNormal (c : Clause) : Type 0 where
 -- each literal comes before all later ones in the order of literals
 abbrev pub IsAscending : Clause → Type 0
 IsAscending c = AllPairs (λ l m. literal_code l < literal_code m) c
-
--- the two clauses have the same literals
-abbrev pub SameMembers : Clause → Clause → Type 0
-SameMembers c d = (l : Literal) → Contains c l ↔ Contains d l
 
 -- the literal at the place and the next one are of one variable
 abbrev pub SameVariableAt : Clause → ℕ → Type 0

@@ -3,7 +3,8 @@ use Rattle.std.specs.Prelude.{ℕ, ◌<◌, List, length, All, Contains, IsTrue,
 use Rattle.craig_spec.specs.Literal.{Literal, Clause}
 use Rattle.craig_spec.specs.Truth.{Implies, clause_value}
 use Rattle.craig_spec.specs.Occurs.{occurs_in_clause, Occurs}
-use Rattle.craig_base.specs.Clauses.{IsTautology, SameMembers}
+use Rattle.craig_spec.specs.Chain.{SameLiterals}
+use Rattle.craig_base.specs.Clauses.{IsTautology}
 
 -- each literal of the other clause is in this one
 abbrev pub ContainsClause : Clause → Clause → Type 0
@@ -12,7 +13,7 @@ ContainsClause c other = (l : Literal) → Contains other l → Contains c l
 -- no three places have clauses with the same literals
 abbrev pub NoneMoreThanTwice : List Clause → Type 0
 NoneMoreThanTwice cs =
-    (i j k : ℕ) (d : Clause) → i < j → j < k → k < length cs → SameMembers (slice_index_or cs i d) (slice_index_or cs j d) → ¬ SameMembers (slice_index_or cs j d) (slice_index_or cs k d)
+    (i j k : ℕ) (d : Clause) → i < j → j < k → k < length cs → SameLiterals (slice_index_or cs i d) (slice_index_or cs j d) → ¬ SameLiterals (slice_index_or cs j d) (slice_index_or cs k d)
 
 -- the lemmas that may be listed over the clauses
 pub record MeetsLemmaRule (clauses lemmas : List Clause) : Type 0 where

@@ -7,3 +7,4 @@ pub mod LiteralCodes
 pub mod Literals
 pub mod Names
 pub mod NormalForms
+pub mod Values

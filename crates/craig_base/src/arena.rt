@@ -58,7 +58,8 @@ impl Model for Arena {
 impl Arena {
     /// The arena without clauses, which gave no id and takes no memory.
     pub fn new(alloc: Global) -> Arena
-        ensures { result ≡ record { clauses = []; given = 0 } }
+        ensures empty { result ≡ record { clauses = []; given = 0 } }
+        ensures is_arena { IsArena result }
     {
         Arena {
             entries: Vec::new(alloc),
@@ -69,8 +70,10 @@ impl Arena {
     pub fn number(&mut self) -> Result<ClauseId, AllocError>
         ensures numbered { IfOk result (λ _. self.new ≡ with_id self.old) }
         ensures next { IfOk result (λ id. id.0 ≡ self.old.given) }
+        ensures fresh { IfOk result (λ id. clause_at self.old id.0 ≡ None) }
         ensures not_live { IfOk result (λ id. clause_at self.new id.0 ≡ None) }
         ensures unchanged { OnErr result (self.new ≡ self.old) }
+        ensures is_arena { IsArena self.new }
     {
         let id = ClauseId(self.given());
         self.entries.push(None)?;
@@ -81,8 +84,10 @@ impl Arena {
     pub fn add(&mut self, lits: &[Lit], flags: Flags) -> Result<ClauseId, AllocError>
         ensures added { IfOk result (λ _. self.new ≡ with_clause self.old (record { literals = lits.now; flags = flags })) }
         ensures next { IfOk result (λ id. id.0 ≡ self.old.given) }
+        ensures fresh { IfOk result (λ id. clause_at self.old id.0 ≡ None) }
         ensures only { IfOk result (λ id. ChangesOnly self.old self.new id.0 (Some (record { literals = lits.now; flags = flags }))) }
         ensures unchanged { OnErr result (self.new ≡ self.old) }
+        ensures is_arena { IsArena self.new }
     {
         let id = ClauseId(self.given());
         let literals = Vec::from_slice(*self.entries.allocator(), lits)?;
@@ -100,14 +105,16 @@ impl Arena {
 
     // The entry of the id, where a clause is live under it.
     fn entry(&self, id: ClauseId) -> Option<&StoredClause>
-        ensures { option_map (λ c. shown c.now) result ≡ clause_at self.now id.0 }
+        ensures entry { option_map (λ c. shown c.now) result ≡ clause_at self.now id.0 }
+        ensures is_arena { IsArena self.now }
     {
         self.entries.get(id.0 as usize)?.as_ref()
     }
 
     /// Whether a clause is live under the id.
     pub fn live(&self, id: ClauseId) -> bool
-        ensures { result ≡ is_some (clause_at self.now id.0) }
+        ensures live { result ≡ is_some (clause_at self.now id.0) }
+        ensures is_arena { IsArena self.now }
     {
         self.entry(id).is_some()
     }
@@ -115,7 +122,8 @@ impl Arena {
     /// The literals of a live clause, in the order in which they are kept.
     pub fn lits(&self, id: ClauseId) -> &[Lit]
         requires { IsLive self.now id.0 }
-        ensures { result.now ≡ literals_at self.now id.0 }
+        ensures literals { result.now ≡ literals_at self.now id.0 }
+        ensures is_arena { IsArena self.now }
     {
         match self.entry(id) {
             Some(clause) => clause.literals.as_slice(),
@@ -143,6 +151,7 @@ impl Arena {
         requires { IsLive self.old id.0 }
         ensures changed { self.new ≡ changed (λ c. record c { flags = flags }) self.old id.0 }
         ensures only { ChangesClause self.old self.new id.0 (λ c. record c { flags = flags }) }
+        ensures is_arena { IsArena self.new }
     {
         let Some(clause) = &mut self.entries[id.0 as usize] else {
             return;
@@ -157,6 +166,7 @@ impl Arena {
         requires right { right < length (literals_at self.old id.0) }
         ensures changed { self.new ≡ changed (λ c. record c { literals = swap c.literals left right }) self.old id.0 }
         ensures only { ChangesClause self.old self.new id.0 (λ c. record c { literals = swap c.literals left right }) }
+        ensures is_arena { IsArena self.new }
     {
         let Some(clause) = &mut self.entries[id.0 as usize] else {
             return;
@@ -170,6 +180,7 @@ impl Arena {
         requires place { place < length (literals_at self.old id.0) }
         ensures changed { self.new ≡ changed (λ c. record c { literals = remove c.literals place }) self.old id.0 }
         ensures only { ChangesClause self.old self.new id.0 (λ c. record c { literals = remove c.literals place }) }
+        ensures is_arena { IsArena self.new }
     {
         let Some(clause) = &mut self.entries[id.0 as usize] else {
             return;
@@ -182,6 +193,7 @@ impl Arena {
         requires { IsLive self.old id.0 }
         ensures without { self.new ≡ without self.old id.0 }
         ensures only { ChangesOnly self.old self.new id.0 None }
+        ensures is_arena { IsArena self.new }
     {
         self.entries[id.0 as usize] = None;
     }

@@ -8,22 +8,31 @@
 
 mod arena;
 mod clause_id;
+mod clause_list;
 mod flags;
+mod laws;
 mod literal;
 mod literal_list;
 mod names;
 mod normal_form;
 mod normalize;
 mod script_part;
+mod values;
 mod variable;
 
 pub use arena::Arena;
 pub use clause_id::ClauseId;
+pub use clause_list::Clauses;
 pub use flags::Flags;
+pub use laws::{
+    clauses_are_found, live_ids_were_given, models_of_an_arena, no_longer_list, one_clause_changes,
+    reordered_clauses, values_are_an_assignment,
+};
 pub use literal::Lit;
 pub use literal_list::Lits;
 pub use names::Names;
 pub use normal_form::Normal;
 pub use normalize::normal;
 pub use script_part::Part;
+pub use values::Values;
 pub use variable::Var;

@@ -2,7 +2,8 @@
 ghost use Rattle.std.specs.Prelude.{◌≢◌, ◌↔◌, ◌+◌, ◌<◌, ℕ, IfOk, length};
 ghost use Rattle.std.specs.Bool.{OnTrue, OnFalse};
 ghost use Rattle.std.specs.List.{AllAdjacentBelow};
-ghost use Rattle.craig_base.specs.Clauses.{IsTautology, IsAscending, IsNormal, SameMembers, SameVariableAt};
+ghost use Rattle.craig_spec.specs.Chain.{SameLiterals};
+ghost use Rattle.craig_base.specs.Clauses.{IsTautology, IsAscending, IsNormal, SameVariableAt};
 ghost use Rattle.craig_base.specs.NormalForms.{IsTautologyAnswer, OnClause};
 
 use crate::{Lit, Lits, Normal};
@@ -20,7 +21,7 @@ fn has_equal_neighbours(literals: &[Lit]) -> bool
 
 // The literals in order, each once.
 fn sorted_literals(alloc: Global, lits: &[Lit]) -> Result<Lits, AllocError>
-    ensures members { IfOk result (SameMembers lits.now) }
+    ensures members { IfOk result (SameLiterals lits.now) }
     ensures ascending { IfOk result IsAscending }
 {
     let mut literals = Vec::from_slice(alloc, lits)?;
@@ -33,7 +34,7 @@ fn sorted_literals(alloc: Global, lits: &[Lit]) -> Result<Lits, AllocError>
 /// The only error is want of memory.
 pub fn normal(alloc: Global, lits: &[Lit]) -> Result<Normal, AllocError>
     ensures tautology { IfOk result (λ n. IsTautologyAnswer n ↔ IsTautology lits.now) }
-    ensures members { IfOk result (OnClause (SameMembers lits.now)) }
+    ensures members { IfOk result (OnClause (SameLiterals lits.now)) }
     ensures ascending { IfOk result (OnClause IsAscending) }
     ensures is_normal { IfOk result (OnClause IsNormal) }
 {

@@ -1,5 +1,5 @@
 -- What a caller of a tracer knows after a step.
-use Rattle.std.proofs.Common.{◌≡◌, ℕ, suc, zero, ◌<◌, Bool, true, false, not, ◌&&◌, ◌||◌, eqb, eq-eqb, List, [], ◌∷◌, ◌++◌, All, Contains, Option, Some, None, refl, ap, sym, ◌∙◌, arith, inl, inr}
+use Rattle.std.proofs.Common.{◌≡◌, ℕ, suc, zero, ◌<◌, Bool, true, false, not, ◌&&◌, ◌||◌, eqb, eq-eqb, List, [], ◌∷◌, ◌++◌, All, Contains, Option, Some, None, refl, ap, sym, subst, ◌∙◌, arith, inl, inr}
 use Rattle.std.specs.Option.{is_some}
 use Rattle.craig_spec.specs.Literal.{Literal, negation}
 use Rattle.craig_spec.specs.Chain.{ChainOk, clause_told, IsUnforgotten, IsResolvent, Told, ToldStep, nothing_told, with_step}
@@ -56,7 +56,7 @@ or_true : (b : Bool) → (b || true) ≡ true
 or_true true = refl
 or_true false = refl
 
-unforgotten_pushed : (steps : List ToldStep) (s : ToldStep) → s.forgotten ≡ false → IsUnforgotten (steps ++ s ∷ []) s.id
+pub unforgotten_pushed : (steps : List ToldStep) (s : ToldStep) → s.forgotten ≡ false → IsUnforgotten (steps ++ s ∷ []) s.id
 unforgotten_pushed [] s f = rw (eq-eqb s.id s.id refl, f) refl
 unforgotten_pushed (r ∷ steps) s f = rw (unforgotten_pushed steps s f) (or_true (eqb r.id s.id && not r.forgotten))
 
@@ -68,3 +68,9 @@ IsUnforgotten-last (Some t) b s appends some f = (with_step t s, appends, unforg
 -- something was told
 pub is_some-told : (a : Option Told) (t : Told) → a ≡ Some t → is_some a ≡ true
 is_some-told a t is = rw is refl
+
+-- and what is told afterwards has it so
+pub IsUnforgotten-told : (a b : Option Told) (s : ToldStep) (u : Told) → Appends a b s → b ≡ Some u → s.forgotten ≡ false → IsUnforgotten u.steps s.id
+IsUnforgotten-told a b s u appends is f =
+    let was = before_step a b s u appends is in
+    subst (λ (v : Told). IsUnforgotten v.steps s.id) (sym was.2) (unforgotten_pushed was.0.steps s f)

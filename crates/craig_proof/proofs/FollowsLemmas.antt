@@ -1,10 +1,10 @@
 -- What is derived by resolution follows.
-use Rattle.std.proofs.Common.{◌≡◌, ℕ, suc, zero, ◌<◌, Bool, true, false, cond, not, ◌||◌, eqb, List, [], ◌∷◌, length, get_or, take, map, Contains, Some, length-take, refl, ap, sym, ◌∙◌, arith, eqb-true, ◌⊎◌, inl, inr}
+use Rattle.std.proofs.Common.{◌≡◌, ℕ, suc, zero, ◌<◌, Bool, true, false, cond, not, ◌||◌, eqb, List, [], ◌∷◌, length, get_or, take, map, Contains, Option, Some, length-take, refl, ap, sym, ◌∙◌, arith, eqb-true, ◌⊎◌, inl, inr}
 use Rattle.std.proofs.lemmas.List.{get_or_default, get_or-take}
 use Rattle.std.proofs.lemmas.Bool.{eqb-false}
 use Rattle.craig_spec.specs.Literal.{Literal, Clause, negation}
 use Rattle.craig_spec.specs.Truth.{Assignment, literal_value, clause_value, variable_value}
-use Rattle.craig_spec.specs.Chain.{ChainStep, Origin, Original, Derived, ToldStep, Told, antecedents, clause_told, IsResolvent, IsChain, StandsOn, IsTold}
+use Rattle.craig_spec.specs.Chain.{ChainStep, Origin, Original, Derived, ToldStep, Told, antecedents, clause_told, IsResolvent, IsChain, ChainOk, StandsOn, IsTold}
 use Rattle.craig_spec.specs.Needed.{IsNeeded, OriginalsHold, AllFollow}
 
 -- one more member in front
@@ -75,12 +75,18 @@ resolvent_true a p c d r resolved first second =
     let t = true_literal a c first in resolvent-first a p c d r resolved second t.0 t.1 t.2 (same_literals t.0 p)
 
 -- so is what a chain gives
-chain_true : (a : Assignment) (steps : List ToldStep) (c : Clause) (rest : List ChainStep) (last : Clause) → IsChain (clause_told steps) c rest last → ((x : ℕ) (d : Clause) → Contains (map (λ s. s.antecedent) rest) x → clause_told steps x ≡ Some d → clause_value a d ≡ true) → clause_value a c ≡ true → clause_value a last ≡ true
-chain_true a steps c [] last chain known h =
+chain_true : (a : Assignment) (f : ℕ → Option Clause) (c : Clause) (rest : List ChainStep) (last : Clause) → IsChain f c rest last → ((x : ℕ) (d : Clause) → Contains (map (λ s. s.antecedent) rest) x → f x ≡ Some d → clause_value a d ≡ true) → clause_value a c ≡ true → clause_value a last ≡ true
+chain_true a f c [] last chain known h =
     let t = true_literal a c h in true_clause a last t.0 ((chain t.0).0 t.1) t.2
-chain_true a steps c (s ∷ rest) last (d, r, e, resolved, more) known h =
+chain_true a f c (s ∷ rest) last (d, r, e, resolved, more) known h =
     let second : clause_value a d ≡ true = known s.antecedent d (Contains-front s.antecedent (map (λ q. q.antecedent) rest)) e in
-    chain_true a steps r rest last more (λ x b here is. known x b (Contains-later s.antecedent (map (λ q. q.antecedent) rest) x here) is) (resolvent_true a s.pivot c d r resolved h second)
+    chain_true a f r rest last more (λ x b here is. known x b (Contains-later s.antecedent (map (λ q. q.antecedent) rest) x here) is) (resolvent_true a s.pivot c d r resolved h second)
+
+-- a chain's clause is true where those of its antecedents are
+pub ChainOk-true : (f : ℕ → Option Clause) (literals : Clause) (first : ℕ) (rest : List ChainStep) → ChainOk f literals first rest → (a : Assignment) → ((x : ℕ) (c : Clause) → Contains (antecedents (Derived first rest)) x → f x ≡ Some c → clause_value a c ≡ true) → clause_value a literals ≡ true
+ChainOk-true f literals first rest chain a known =
+    let ids : List ℕ = map (λ q. q.antecedent) rest in
+    chain_true a f chain.start rest literals chain.chain (λ x c here. known x c (Contains-later first ids x here)) (known first chain.start (Contains-front first ids) chain.start_is)
 
 -- where the clause of an id stands
 told_place-cases : (s : ToldStep) (steps : List ToldStep) (id : ℕ) (c : Clause) (b : Bool) → eqb s.id id ≡ b → cond b (Some s.literals) (clause_told steps id) ≡ Some c → (clause_told steps id ≡ Some c → (k : ℕ) × (k < length steps) × ((d : ToldStep) → ((get_or steps k d).id ≡ id) × ((get_or steps k d).literals ≡ c))) → (k : ℕ) × (k < length (s ∷ steps)) × ((d : ToldStep) → ((get_or (s ∷ steps) k d).id ≡ id) × ((get_or (s ∷ steps) k d).literals ≡ c))
@@ -118,7 +124,7 @@ module _ (steps : List ToldStep) (a : Assignment) (told : (k : ℕ) (d : ToldSte
       let known = antecedents_true k s within at earlier holds in
       let ids : antecedents s.origin ≡ first ∷ map (λ q. q.antecedent) rest = rw is refl in
       let start : clause_value a stands.start ≡ true = known first stands.start (rw ids (Contains-front first (map (λ q. q.antecedent) rest))) stands.start_is in
-      chain_true a (take k steps) stands.start rest s.literals stands.chain (λ x c here e. known x c (rw ids (Contains-later first (map (λ q. q.antecedent) rest) x here)) e) start
+      chain_true a (clause_told (take k steps)) stands.start rest s.literals stands.chain (λ x c here e. known x c (rw ids (Contains-later first (map (λ q. q.antecedent) rest) x here)) e) start
 
   true_up_to : (n k : ℕ) (d : ToldStep) → k < n → k < length steps → TrueAt steps a (get_or steps k d)
   unfolding TrueAt

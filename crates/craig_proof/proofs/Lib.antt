@@ -1,5 +1,7 @@
 pub mod CallerLemmas
+pub mod ChainGrowthLemmas
 pub mod ChainLemmas
+pub mod CoversLemmas
 pub mod FollowsLemmas
 pub mod MarksLemmas
 pub mod PairLemmas

@@ -35,7 +35,7 @@ left_told-cases p s steps x false true e passes rest = absurd (let no : false �
 left_told-cases p s steps x false false e passes rest = rest
 
 -- an id whose steps are left has the same clause
-clause_told-left : (p : ToldStep → Bool) (steps : List ToldStep) (x : ℕ) → ((r : ToldStep) → Contains steps r → r.id ≡ x → p r ≡ true) → clause_told (filter p steps) x ≡ clause_told steps x
+pub clause_told-left : (p : ToldStep → Bool) (steps : List ToldStep) (x : ℕ) → ((r : ToldStep) → Contains steps r → r.id ≡ x → p r ≡ true) → clause_told (filter p steps) x ≡ clause_told steps x
 clause_told-left p [] x passes = refl
 clause_told-left p (s ∷ steps) x passes =
     left_told-cases p s steps x (p s) (eqb s.id x) refl (passes s (0, omega arith, refl)) (clause_told-left p steps x (λ r here. passes r (suc here.0, omega (arith, here.1), here.2)))

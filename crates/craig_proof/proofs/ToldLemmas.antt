@@ -52,7 +52,7 @@ module _ (t : Told) (s : ToldStep) (told : IsTold t) (above : IsAbove t s.id) (s
   IsTold-with_step = record { rising = rising_pushed; greatest = greatest_pushed; stand = stand_pushed }
 
 -- what is told under an id stays when marks change
-clause_told-forgotten : (id x : ℕ) (steps : List ToldStep) → clause_told (map (forgotten_at id) steps) x ≡ clause_told steps x
+pub clause_told-forgotten : (id x : ℕ) (steps : List ToldStep) → clause_told (map (forgotten_at id) steps) x ≡ clause_told steps x
 clause_told-forgotten id x [] = refl
 clause_told-forgotten id x (s ∷ steps) =
     elim (eqb s.id id) as (λ b. cond (eqb (cond b (record { id = s.id; literals = s.literals; origin = s.origin; forgotten = true }) s).id x) (Some (cond b (record { id = s.id; literals = s.literals; origin = s.origin; forgotten = true }) s).literals) (clause_told (map (forgotten_at id) steps) x) ≡ clause_told (s ∷ steps) x) [

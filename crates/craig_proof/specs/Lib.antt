@@ -1,4 +1,5 @@
 pub mod ChainStore
+pub mod Covers
 pub mod Marks
 pub mod Pair
 pub mod StoredSteps

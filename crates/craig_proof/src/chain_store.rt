@@ -174,6 +174,7 @@ mod tests {
     fn tell_refutation<T: Tracer>(tracer: &mut T) -> Result<(), AllocError>
         requires { ForSome (T.told tracer.old) (λ t. t ≡ nothing_told) }
         ensures told { OnOk result (ForSome (T.told tracer.old) (λ _. (u : Told) × (T.told tracer.new ≡ Some u) × IsUnforgotten u.steps 3)) }
+        ensures unforgotten { OnOk result (ForSome (T.told tracer.new) (λ u. IsUnforgotten u.steps 3)) }
     {
         let v0 = Lit::new(Var(0), false);
         let v5 = Lit::new(Var(5), false);
@@ -189,6 +190,14 @@ mod tests {
             antecedent: ClauseId(1),
         }];
         tracer.derived(ClauseId(3), &none, ClauseId(0), &rest)
+    }
+
+    // Says that the clause is done with, and lets go of what no other needs.
+    fn forget_and_reclaim<T: Tracer>(tracer: &mut T, id: ClauseId)
+        requires { ForSome (T.told tracer.old) (λ t. IsUnforgotten t.steps id.0) }
+    {
+        tracer.forget(id);
+        tracer.reclaim();
     }
 
     // Whether the store has exactly the steps of these ids.
@@ -211,8 +220,7 @@ mod tests {
         assert!(rt; has_ids(&second, &[0, 1, 3]));
         let mut silent = Silent;
         store.replay(ClauseId(3), &mut silent)?;
-        store.forget(ClauseId(3));
-        store.reclaim();
+        forget_and_reclaim(&mut store, ClauseId(3));
         store.each_clause_follows();
         assert!(rt; has_ids(&store, &[0, 1, 2, 3]));
         Ok(())
@@ -224,6 +232,23 @@ mod tests {
         tell_refutation(&mut pair)?;
         assert!(rt; has_ids(pair.first(), &[0, 1, 2, 3]));
         assert!(rt; has_ids(pair.second(), &[0, 1, 2, 3]));
+        Ok(())
+    }
+
+    #[test]
+    fn silent_listens_to_all(_rt: HostRuntime) -> Result<(), Fail> {
+        let mut silent = Silent;
+        tell_refutation(&mut silent)?;
+        forget_and_reclaim(&mut silent, ClauseId(3));
+        Ok(())
+    }
+
+    #[test]
+    fn a_pair_with_silent_tells_the_store(rt: HostRuntime) -> Result<(), Fail> {
+        let mut pair = Pair::new(ChainStore::new(rt.alloc()), Silent);
+        tell_refutation(&mut pair)?;
+        forget_and_reclaim(&mut pair, ClauseId(3));
+        assert!(rt; has_ids(pair.first(), &[0, 1, 2, 3]));
         Ok(())
     }
 }

@@ -1,9 +1,16 @@
 //! Laws of chains and of the steps that a tracer was told, for proofs about any tracer. The functions do nothing.
 
-ghost use Rattle.std.specs.Prelude.{ℕ, List, Option, Contains};
-ghost use Rattle.craig_spec.specs.Literal.{Clause};
-ghost use Rattle.craig_spec.specs.Chain.{ChainStep, Derived, ToldStep, Told, IsAbove, IsTold, StandsOn, ChainOk, GivesSame, antecedents, nothing_told, with_step, without_id};
+ghost use Rattle.std.specs.Prelude.{◌≡◌, ◌≤◌, ◌+◌, [], ◌∷◌, ◌++◌, ℕ, List, Option, Some, None, All, Contains, IsTrue, is_some};
+ghost use Rattle.std.specs.Option.{ForSome, option_map};
+ghost use Rattle.craig_spec.specs.Literal.{Clause, Literal};
+ghost use Rattle.craig_spec.specs.Truth.{Assignment, clause_value};
+ghost use Rattle.craig_spec.specs.Occurs.{occurs_in_clause};
+ghost use Rattle.craig_spec.specs.Chain.{ChainStep, Derived, ToldStep, Told, IsAbove, IsTold, IsUnforgotten, IsResolvent, StandsOn, ChainOk, GivesSame, SameLiterals, antecedents, clause_told, nothing_told, with_step, without_id};
 ghost use Rattle.craig_spec.specs.Needed.{AllFollow, IsNeededPart, Reclaims};
+ghost use Rattle.craig_base.specs.Clauses.{IsTautology};
+ghost use Rattle.craig_proof.specs.Covers.{GivesSome, IsCovering, IsOldOrNext};
+ghost use Rattle.craig_proof.specs.Tracer.{Appends, chain_of, original_step, derived_step};
+ghost use Rattle.craig_proof.specs.declared.step.Step.{Step};
 
 /// Each clause of steps that stand on one another is true wherever the originals are that it needs, and each id has
 /// the part of the steps that it needs.
@@ -26,6 +33,51 @@ pub fn chain_over_same_clauses()
     ensures { (f g : ℕ → Option Clause) (literals : Clause) (first : ℕ) (rest : List ChainStep) → ((id : ℕ) → Contains (antecedents (Derived first rest)) id → GivesSame f g id) → ChainOk f literals first rest → ChainOk g literals first rest }
 {}
 
+/// Resolution is sound: a chain's clause is true wherever the clauses of its antecedents are, and it is no tautology
+/// where none of them is.
+pub fn chain_follows()
+    ensures follows { (f : ℕ → Option Clause) (literals : Clause) (first : ℕ) (rest : List ChainStep) → ChainOk f literals first rest → (a : Assignment) → ((id : ℕ) (c : Clause) → Contains (antecedents (Derived first rest)) id → f id ≡ Some c → IsTrue (clause_value a c)) → IsTrue (clause_value a literals) }
+    ensures not_tautology { (f : ℕ → Option Clause) (literals : Clause) (first : ℕ) (rest : List ChainStep) → ChainOk f literals first rest → ((id : ℕ) (c : Clause) → Contains (antecedents (Derived first rest)) id → f id ≡ Some c → ¬ IsTautology c) → ¬ IsTautology literals }
+{}
+
+/// The look-up gives each antecedent of a chain, and each literal and so each variable of the chain's clause is one of
+/// an antecedent's.
+pub fn chain_variables()
+    ensures given { (f : ℕ → Option Clause) (literals : Clause) (first : ℕ) (rest : List ChainStep) → ChainOk f literals first rest → (id : ℕ) → Contains (antecedents (Derived first rest)) id → (c : Clause) × (f id ≡ Some c) }
+    ensures literals { (f : ℕ → Option Clause) (literals : Clause) (first : ℕ) (rest : List ChainStep) → ChainOk f literals first rest → (l : Literal) → Contains literals l → GivesSome f (antecedents (Derived first rest)) (λ c. Contains c l) }
+    ensures variables { (f : ℕ → Option Clause) (literals : Clause) (first : ℕ) (rest : List ChainStep) → ChainOk f literals first rest → (x : ℕ) → IsTrue (occurs_in_clause x literals) → GivesSome f (antecedents (Derived first rest)) (λ c. IsTrue (occurs_in_clause x c)) }
+{}
+
+/// A chain begins with a clause that the look-up gives and no step, a resolvent with one more clause makes it longer,
+/// and its clause may stand in any order.
+pub fn chain_grows()
+    ensures start { (f : ℕ → Option Clause) (literals : Clause) (first : ℕ) → f first ≡ Some literals → ChainOk f literals first [] }
+    ensures step { (f : ℕ → Option Clause) (literals : Clause) (first : ℕ) (rest : List Step) (s : Step) (d resolvent : Clause) → ChainOk f literals first (chain_of rest) → f s.antecedent.0 ≡ Some d → IsResolvent s.pivot literals d resolvent → ChainOk f resolvent first (chain_of (rest ++ s ∷ [])) }
+    ensures order { (f : ℕ → Option Clause) (literals other : Clause) (first : ℕ) (rest : List ChainStep) → ChainOk f literals first rest → SameLiterals literals other → ChainOk f other first rest }
+{}
+
+/// A tracer that covers the clauses of a solver may be told of the next one, and of one that is done with: a chain over
+/// these clauses is one over the told steps, and none of its antecedents is forgotten.
+pub fn covered_chain_is_told()
+    ensures above { (told : Option Told) (f : ℕ → Option Clause) (given : ℕ) → IsCovering told f given → ForSome told (λ t. IsAbove t given) }
+    ensures unforgotten { (told : Option Told) (f : ℕ → Option Clause) (given id : ℕ) (c : Clause) → IsCovering told f given → f id ≡ Some c → ForSome told (λ t. IsUnforgotten t.steps id) }
+    ensures antecedents { (told : Option Told) (f : ℕ → Option Clause) (given : ℕ) (literals : Clause) (first : ℕ) (rest : List ChainStep) → IsCovering told f given → ChainOk f literals first rest → ForSome told (λ t. All (IsUnforgotten t.steps) (antecedents (Derived first rest))) }
+    ensures chain { (told : Option Told) (f : ℕ → Option Clause) (given : ℕ) (literals : Clause) (first : ℕ) (rest : List ChainStep) → IsCovering told f given → ChainOk f literals first rest → ForSome told (λ t. ChainOk (clause_told t.steps) literals first rest) }
+{}
+
+/// A tracer that was told nothing covers no clauses. It goes on covering those of a solver when some are let go, change
+/// the order of their literals or ids are numbered (`fewer`), when an original or a derived clause is told under the
+/// next id, whether or not the solver then has it, when an id is forgotten that the solver doesn't have, and when steps
+/// are given up.
+pub fn covering_is_kept()
+    ensures nothing { (told : Option Told) (f : ℕ → Option Clause) (given : ℕ) → ForSome told (λ t. t ≡ nothing_told) → ((id : ℕ) → f id ≡ None) → IsCovering told f given }
+    ensures fewer { (told : Option Told) (f g : ℕ → Option Clause) (given more : ℕ) → IsCovering told f given → given ≤ more → ((id : ℕ) → GivesSame g f id) → IsCovering told g more }
+    ensures original { (before after : Option Told) (f g : ℕ → Option Clause) (given part : ℕ) (literals : Clause) → IsCovering before f given → Appends before after (original_step given part literals) → IsOldOrNext f g given literals → IsCovering after g (given + 1) }
+    ensures derived { (before after : Option Told) (f g : ℕ → Option Clause) (given : ℕ) (literals : Clause) (first : ℕ) (rest : List Step) → IsCovering before f given → Appends before after (derived_step given literals first rest) → ChainOk f literals first (chain_of rest) → IsOldOrNext f g given literals → IsCovering after g (given + 1) }
+    ensures forgotten { (before after : Option Told) (f : ℕ → Option Clause) (given id : ℕ) → IsCovering before f given → after ≡ option_map (without_id id) before → f id ≡ None → IsCovering after f given }
+    ensures reclaimed { (before after : Option Told) (f : ℕ → Option Clause) (given : ℕ) → IsCovering before f given → is_some after ≡ is_some before → ((t : Told) → before ≡ Some t → (u : Told) × (after ≡ Some u) × Reclaims t u) → IsCovering after f given }
+{}
+
 #[cfg(test)]
 mod tests {
     use super::*;
@@ -36,6 +88,11 @@ mod tests {
         told_clauses_follow();
         told_steps_stand();
         chain_over_same_clauses();
+        chain_follows();
+        chain_variables();
+        chain_grows();
+        covered_chain_is_told();
+        covering_is_kept();
         Ok(())
     }
 }

@@ -19,7 +19,10 @@ mod stored_step;
 mod tracer;
 
 pub use chain_store::ChainStore;
-pub use laws::{chain_over_same_clauses, told_clauses_follow, told_steps_stand};
+pub use laws::{
+    chain_follows, chain_grows, chain_over_same_clauses, chain_variables, covered_chain_is_told,
+    covering_is_kept, told_clauses_follow, told_steps_stand,
+};
 pub use pair::Pair;
 pub use silent::Silent;
 pub use step::Step;

@@ -1,4 +1,4 @@
-use craig_base::{ClauseId, Lit};
+use craig_base::{ClauseId, Lit, Var};
 
 /// One resolution of a chain.
 #[derive(Clone, Copy, Debug, PartialEq, Eq)]
@@ -7,4 +7,14 @@ pub struct Step {
     pub pivot: Lit,
     /// The clause that has the pivot's negation.
     pub antecedent: ClauseId,
+}
+
+impl Default for Step {
+    /// The step on variable 0 and clause 0, which fills the places of a short list that nothing was put into.
+    fn default() -> Step {
+        Step {
+            pivot: Lit::new(Var(0), false),
+            antecedent: ClauseId(0),
+        }
+    }
 }

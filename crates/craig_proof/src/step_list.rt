@@ -1,13 +1,14 @@
 ghost use Rattle.std.specs.Prelude.{◌≡◌, [], ◌∷◌, ◌++◌, OnOk, OnErr};
 
 use crate::Step;
+use smallvec::SmallVec;
 use std::alloc::{AllocError, Global};
 use std::marker::Model;
 
-/// The steps of a chain after its first antecedent.
+/// The steps of a chain after its first antecedent. The first eight take no memory.
 #[derive(Debug, Drop)]
 pub struct Steps {
-    steps: Vec<Step>,
+    steps: SmallVec<Step, 8>,
 }
 
 impl Model for Steps {
@@ -25,7 +26,7 @@ impl Steps {
         ensures { result ≡ [] }
     {
         Steps {
-            steps: Vec::new(alloc),
+            steps: SmallVec::new(alloc),
         }
     }
 

@@ -3,3 +3,5 @@ pub mod Truth
 pub mod Occurs
 pub mod Chain
 pub mod Needed
+pub mod Circuit
+pub mod AigerReading

@@ -21,9 +21,10 @@ use Rattle.craig_watch.specs.Held.{HeldView, held_clause, IsSettled, IsComplete,
 use Rattle.craig_watch.proofs.TrailLemmas.{entry_of-free, absent-entry_of, value_under-part, value_under-part_free, value_under-absent, entry_of-part_above, part_up_to-push, part_up_to-whole, each_push, each_popped, AreLevels-push, AreLevels-popped, levels-bounded, level-last, length-le_from_known, decisions-push}
 
 -- another arena under the same trail
-pub IsConsistent-arena : (h : HeldView) (a : ArenaView) (dead : Bool) → IsConsistent h → AreClauses a h.vars → IsCompleteBelow a h.trail h.level → ((k : ℕ) (d : TrailEntry) (id : ClauseId) (c : Clause) → k < length h.trail → (get_or h.trail k d).reason ≡ Some id → held_clause h.arena id.0 ≡ Some c → held_clause a id.0 ≡ Some c) → IsConsistent (record { arena = a; vars = h.vars; trail = h.trail; level = decisions h.trail; dead = dead })
-IsConsistent-arena h a dead ok clauses complete kept = record {
+pub IsConsistent-arena : (h : HeldView) (a : ArenaView) (dead : Bool) → IsConsistent h → IsArena a → AreClauses a h.vars → IsCompleteBelow a h.trail h.level → ((k : ℕ) (d : TrailEntry) (id : ClauseId) (c : Clause) → k < length h.trail → (get_or h.trail k d).reason ≡ Some id → held_clause h.arena id.0 ≡ Some c → held_clause a id.0 ≡ Some c) → IsConsistent (record { arena = a; vars = h.vars; trail = h.trail; level = decisions h.trail; dead = dead })
+IsConsistent-arena h a dead ok arena clauses complete kept = record {
   few = ok.few;
+  arena = arena;
   clauses = clauses;
   known = ok.known;
   distinct = ok.distinct;
@@ -34,14 +35,14 @@ IsConsistent-arena h a dead ok clauses complete kept = record {
 }
 
 -- fewer clauses
-pub IsConsistent-fewer : (h : HeldView) (a : ArenaView) (dead : Bool) → IsConsistent h → ((id : ℕ) (c : Clause) → held_clause a id ≡ Some c → held_clause h.arena id ≡ Some c) → ((k : ℕ) (d : TrailEntry) (id : ClauseId) (c : Clause) → k < length h.trail → (get_or h.trail k d).reason ≡ Some id → held_clause h.arena id.0 ≡ Some c → held_clause a id.0 ≡ Some c) → IsConsistent (record { arena = a; vars = h.vars; trail = h.trail; level = decisions h.trail; dead = dead })
-IsConsistent-fewer h a dead ok sub kept =
-    IsConsistent-arena h a dead ok (λ id c is. ok.clauses id c (sub id c is)) (λ l w id c is. ok.complete l w id c (sub id c is)) kept
+pub IsConsistent-fewer : (h : HeldView) (a : ArenaView) (dead : Bool) → IsConsistent h → IsArena a → ((id : ℕ) (c : Clause) → held_clause a id ≡ Some c → held_clause h.arena id ≡ Some c) → ((k : ℕ) (d : TrailEntry) (id : ClauseId) (c : Clause) → k < length h.trail → (get_or h.trail k d).reason ≡ Some id → held_clause h.arena id.0 ≡ Some c → held_clause a id.0 ≡ Some c) → IsConsistent (record { arena = a; vars = h.vars; trail = h.trail; level = decisions h.trail; dead = dead })
+IsConsistent-fewer h a dead ok arena sub kept =
+    IsConsistent-arena h a dead ok arena (λ id c is. ok.clauses id c (sub id c is)) (λ l w id c is. ok.complete l w id c (sub id c is)) kept
 
 -- the same clauses
-pub IsConsistent-same : (h : HeldView) (a : ArenaView) (dead : Bool) → IsConsistent h → ((id : ℕ) → held_clause a id ≡ held_clause h.arena id) → IsConsistent (record { arena = a; vars = h.vars; trail = h.trail; level = decisions h.trail; dead = dead })
-IsConsistent-same h a dead ok same =
-    IsConsistent-fewer h a dead ok (λ id c is. sym (same id) ∙ is) (λ k d id c w is held. same id.0 ∙ held)
+pub IsConsistent-same : (h : HeldView) (a : ArenaView) (dead : Bool) → IsConsistent h → IsArena a → ((id : ℕ) → held_clause a id ≡ held_clause h.arena id) → IsConsistent (record { arena = a; vars = h.vars; trail = h.trail; level = decisions h.trail; dead = dead })
+IsConsistent-same h a dead ok arena same =
+    IsConsistent-fewer h a dead ok arena (λ id c is. sym (same id) ∙ is) (λ k d id c w is held. same id.0 ∙ held)
 
 -- without the clause of an id
 without-sub : (b : Bool) (o : Option FlaggedClause) (c : Clause) → option_map (λ f. f.literals) (cond b None o) ≡ Some c → option_map (λ f. f.literals) o ≡ Some c
@@ -55,9 +56,9 @@ without-kept false o c other is = is
 abbrev clause_id : ℕ → ClauseId
 clause_id n = record { 0 = n }
 
-pub IsConsistent-without : (h : HeldView) (a : ArenaView) (id : ClauseId) → IsConsistent h → ChangesOnly h.arena a id.0 None → All (λ e. e.reason ≢ Some id) h.trail → IsConsistent (record { arena = a; vars = h.vars; trail = h.trail; level = decisions h.trail; dead = h.dead })
-IsConsistent-without h a id ok only free =
-    IsConsistent-fewer h a h.dead ok (λ k c is. without-sub (eqb k id.0) (clause_at h.arena k) c (ap (option_map (λ (f : FlaggedClause). f.literals)) (sym (only k)) ∙ is))
+pub IsConsistent-without : (h : HeldView) (a : ArenaView) (id : ClauseId) → IsConsistent h → IsArena a → ChangesOnly h.arena a id.0 None → All (λ e. e.reason ≢ Some id) h.trail → IsConsistent (record { arena = a; vars = h.vars; trail = h.trail; level = decisions h.trail; dead = h.dead })
+IsConsistent-without h a id ok arena only free =
+    IsConsistent-fewer h a h.dead ok arena (λ k c is. without-sub (eqb k id.0) (clause_at h.arena k) c (ap (option_map (λ (f : FlaggedClause). f.literals)) (sym (only k)) ∙ is))
     (λ k d r c w is held.
     ap (option_map (λ (f : FlaggedClause). f.literals)) (only r.0) ∙ without-kept (eqb r.0 id.0) (clause_at h.arena r.0) c (λ e. free k d w (is ∙ ap Some (ap clause_id (eqb-true r.0 id.0 e)))) held)
 
@@ -132,14 +133,14 @@ with-kept : (b : Bool) (o : Option FlaggedClause) (f : FlaggedClause) (c : Claus
 with-kept true o f c other is = absurd (other refl)
 with-kept false o f c other is = is
 
-pub IsConsistent-with : (h : HeldView) (a : ArenaView) (f : FlaggedClause) (dead : Bool) → IsConsistent h → IsArena h.arena → ChangesOnly h.arena a h.arena.given (Some f) → IsNormal f.literals → All (λ l. l.var < h.vars) f.literals → MayBeHeld h f.literals → IsConsistent (record { arena = a; vars = h.vars; trail = h.trail; level = decisions h.trail; dead = dead })
+pub IsConsistent-with : (h : HeldView) (a : ArenaView) (f : FlaggedClause) (dead : Bool) → IsConsistent h → IsArena a → ChangesOnly h.arena a h.arena.given (Some f) → IsNormal f.literals → All (λ l. l.var < h.vars) f.literals → MayBeHeld h f.literals → IsConsistent (record { arena = a; vars = h.vars; trail = h.trail; level = decisions h.trail; dead = dead })
 IsConsistent-with h a f dead ok arena only normal known may =
     let held : (k : ℕ) → held_clause a k ≡ option_map (λ g. g.literals) (cond (eqb k h.arena.given) (Some f) (clause_at h.arena k)) = λ k. ap (option_map (λ (g : FlaggedClause). g.literals)) (only k) in
     let cases : (k : ℕ) (c : Clause) → held_clause a k ≡ Some c → (f.literals ≡ c) ⊎ (held_clause h.arena k ≡ Some c) = λ k c is. with_clause-cases (eqb k h.arena.given) (clause_at h.arena k) f c (sym (held k) ∙ is) in
-    IsConsistent-arena h a dead ok
+    IsConsistent-arena h a dead ok arena
     (λ k c is. elim (cases k c is) [ inl same ↦ (subst IsNormal same normal, subst (λ (x : Clause). All (λ l. l.var < h.vars) x) same known) | inr old ↦ ok.clauses k c old ])
     (λ l w k c is. elim (cases k c is) [ inl same ↦ subst (IsSettled (part_up_to l h.trail)) same (settled-may_be_held h f.literals l may w) | inr old ↦ ok.complete l w k c old ])
-    (λ k d r c w is old. held r.0 ∙ with-kept (eqb r.0 h.arena.given) (clause_at h.arena r.0) f c (λ e. (let no : None ≡ Some c = sym (held_clause-given h.arena arena) ∙ ap (held_clause h.arena) (sym (eqb-true r.0 h.arena.given e)) ∙ old in cc)) old)
+    (λ k d r c w is old. held r.0 ∙ with-kept (eqb r.0 h.arena.given) (clause_at h.arena r.0) f c (λ e. (let no : None ≡ Some c = sym (held_clause-given h.arena ok.arena) ∙ ap (held_clause h.arena) (sym (eqb-true r.0 h.arena.given e)) ∙ old in cc)) old)
 
 -- one literal more on the trail
 pub IsConsistent-push : (h : HeldView) (e : TrailEntry) → IsConsistent h → e.literal.var < h.vars → value_under h.trail e.literal ≡ Free → IsJustified h.arena h.trail e → e.level ≡ decisions (h.trail ++ e ∷ []) → ((l : ℕ) → l < decisions (h.trail ++ e ∷ []) → IsComplete h.arena (part_up_to l h.trail)) → IsConsistent (with_entry h e)
@@ -147,6 +148,7 @@ IsConsistent-push h e ok known free justified level complete =
     let absent = absent-entry_of h.trail e.literal.var (entry_of-free h.trail e.literal free) in
     record {
       few = ok.few;
+      arena = ok.arena;
       clauses = ok.clauses;
       known = All-push (λ f. f.literal.var < h.vars) h.trail e ok.known known;
       distinct = all_pairs_push (λ f g. f.literal.var ≢ g.literal.var) h.trail e ok.distinct absent;
@@ -166,6 +168,7 @@ IsConsistent-popped a vars t e level dead ok =
     let present : level ≡ decisions (t ++ e ∷ []) = ok.level in
     record {
       few = ok.few;
+      arena = ok.arena;
       clauses = ok.clauses;
       known = λ k d w. subst (λ (f : TrailEntry). f.literal.var < vars) (same k d w) (ok.known k d (omega arith));
       distinct = λ i j d before w. subst (λ (f : TrailEntry). f.literal.var ≢ (get_or t j d).literal.var) (same i d (omega arith)) (subst (λ (f : TrailEntry). (get_or (t ++ e ∷ []) i d).literal.var ≢ f.literal.var) (same j d w) (ok.distinct i j d before (omega arith)));
@@ -176,14 +179,14 @@ IsConsistent-popped a vars t e level dead ok =
     }
 
 -- the same after a call of the arena that may lack memory
-pub IsConsistent-numbered : {E : Type 0} (h : HeldView) (a : ArenaView) (dead : Bool) (r : Result ClauseId E) → IsConsistent h → IfOk r (λ id. a ≡ with_id h.arena) → OnErr r (a ≡ h.arena) → IsConsistent (record { arena = a; vars = h.vars; trail = h.trail; level = decisions h.trail; dead = dead })
-IsConsistent-numbered h a dead (Ok id) ok numbered unchanged = IsConsistent-same h a dead ok (λ k. ap (λ (b : ArenaView). held_clause b k) numbered)
-IsConsistent-numbered h a dead (Err e) ok numbered unchanged = IsConsistent-same h a dead ok (λ k. ap (λ (b : ArenaView). held_clause b k) unchanged)
+pub IsConsistent-numbered : {E : Type 0} (h : HeldView) (a : ArenaView) (dead : Bool) (r : Result ClauseId E) → IsConsistent h → IsArena a → IfOk r (λ id. a ≡ with_id h.arena) → OnErr r (a ≡ h.arena) → IsConsistent (record { arena = a; vars = h.vars; trail = h.trail; level = decisions h.trail; dead = dead })
+IsConsistent-numbered h a dead (Ok id) ok arena numbered unchanged = IsConsistent-same h a dead ok arena (λ k. ap (λ (b : ArenaView). held_clause b k) numbered)
+IsConsistent-numbered h a dead (Err e) ok arena numbered unchanged = IsConsistent-same h a dead ok arena (λ k. ap (λ (b : ArenaView). held_clause b k) unchanged)
 
-pub IsConsistent-added : {E : Type 0} (h : HeldView) (a : ArenaView) (f : FlaggedClause) (dead : Bool) (r : Result ClauseId E) → IsConsistent h → IsArena h.arena → IfOk r (λ id. id.0 ≡ h.arena.given) → IfOk r (λ id. ChangesOnly h.arena a id.0 (Some f)) → OnErr r (a ≡ h.arena) → IsNormal f.literals → All (λ l. l.var < h.vars) f.literals → MayBeHeld h f.literals → IsConsistent (record { arena = a; vars = h.vars; trail = h.trail; level = decisions h.trail; dead = dead })
+pub IsConsistent-added : {E : Type 0} (h : HeldView) (a : ArenaView) (f : FlaggedClause) (dead : Bool) (r : Result ClauseId E) → IsConsistent h → IsArena a → IfOk r (λ id. id.0 ≡ h.arena.given) → IfOk r (λ id. ChangesOnly h.arena a id.0 (Some f)) → OnErr r (a ≡ h.arena) → IsNormal f.literals → All (λ l. l.var < h.vars) f.literals → MayBeHeld h f.literals → IsConsistent (record { arena = a; vars = h.vars; trail = h.trail; level = decisions h.trail; dead = dead })
 IsConsistent-added h a f dead (Ok id) ok arena next only unchanged normal known may =
     IsConsistent-with h a f dead ok arena (subst (λ (n : ℕ). ChangesOnly h.arena a n (Some f)) next only) normal known may
-IsConsistent-added h a f dead (Err e) ok arena next only unchanged normal known may = IsConsistent-same h a dead ok (λ k. ap (λ (b : ArenaView). held_clause b k) unchanged)
+IsConsistent-added h a f dead (Err e) ok arena next only unchanged normal known may = IsConsistent-same h a dead ok arena (λ k. ap (λ (b : ArenaView). held_clause b k) unchanged)
 
 -- other flags
 flags-same : (b : Bool) (o : Option FlaggedClause) (g : FlaggedClause → FlaggedClause) → ((f : FlaggedClause) → (g f).literals ≡ f.literals) → option_map (λ f. f.literals) (cond b (option_map g o) o) ≡ option_map (λ f. f.literals) o
@@ -195,14 +198,15 @@ flags-at : (b : Bool) (k id : ℕ) (a : ArenaView) (g : FlaggedClause → Flagge
 flags-at true k id a g is same = flags-same true (clause_at a id) g same ∙ ap (λ (n : ℕ). option_map (λ (f : FlaggedClause). f.literals) (clause_at a n)) (sym (eqb-true k id is))
 flags-at false k id a g is same = refl
 
-pub IsConsistent-flagged : (h : HeldView) (a : ArenaView) (g : FlaggedClause → FlaggedClause) (id : ℕ) → IsConsistent h → ChangesClause h.arena a id g → ((f : FlaggedClause) → (g f).literals ≡ f.literals) → IsConsistent (record { arena = a; vars = h.vars; trail = h.trail; level = decisions h.trail; dead = h.dead })
-IsConsistent-flagged h a g id ok only same =
-    IsConsistent-same h a h.dead ok (λ k. ap (option_map (λ (f : FlaggedClause). f.literals)) (only k) ∙ flags-at (eqb k id) k id h.arena g refl same)
+pub IsConsistent-flagged : (h : HeldView) (a : ArenaView) (g : FlaggedClause → FlaggedClause) (id : ℕ) → IsConsistent h → IsArena a → ChangesClause h.arena a id g → ((f : FlaggedClause) → (g f).literals ≡ f.literals) → IsConsistent (record { arena = a; vars = h.vars; trail = h.trail; level = decisions h.trail; dead = h.dead })
+IsConsistent-flagged h a g id ok arena only same =
+    IsConsistent-same h a h.dead ok arena (λ k. ap (option_map (λ (f : FlaggedClause). f.literals)) (only k) ∙ flags-at (eqb k id) k id h.arena g refl same)
 
 -- more known variables
 pub IsConsistent-known : (h : HeldView) (vars : ℕ) → IsConsistent h → h.vars ≤ vars → vars ≤ 2147483648 → IsConsistent (record { arena = h.arena; vars = vars; trail = h.trail; level = decisions h.trail; dead = h.dead })
 IsConsistent-known h vars ok more few = record {
   few = few;
+  arena = ok.arena;
   clauses = λ id c is. ((ok.clauses id c is).0, λ k d w. let low = (ok.clauses id c is).1 k d w in omega arith);
   known = λ k d w. let low = ok.known k d w in omega arith;
   distinct = ok.distinct;

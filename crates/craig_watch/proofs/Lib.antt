@@ -3,3 +3,7 @@ pub mod HeldFieldsLemmas
 pub mod HeldLemmas
 pub mod StoredLemmas
 pub mod StandingLemmas
+pub mod PlacesLemmas
+pub mod LevelsLemmas
+pub mod AssertingLemmas
+pub mod AssignmentLemmas

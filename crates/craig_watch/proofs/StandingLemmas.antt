@@ -6,13 +6,13 @@ use Rattle.std.proofs.lemmas.List.{append-nil, append_assoc, length_push, take_a
 use Rattle.std.proofs.lemmas.List.Elements.{All-push, All-append, Contains-push, Contains-push_cases}
 use Rattle.std.proofs.Math.Seq.{take-suc}
 use Rattle.craig_spec.specs.Literal.{Literal, Clause}
-use Rattle.craig_base.specs.Arena.{ArenaView, FlaggedClause, LiveClause, IsArena, IsLive, clause_of, clause_at, literals_at}
+use Rattle.craig_base.specs.Arena.{ArenaView, FlaggedClause, LiveClause, IsArena, IsLive, clause_of, clause_at, literals_at, OnlyReorders}
 use Rattle.craig_watch.specs.declared.trail_entry.TrailEntry.{TrailEntry}
 use Rattle.craig_watch.specs.declared.value.Value.{Value}
 use Rattle.craig_watch.specs.declared.value.Value.TheVariants.{False, Free}
 use Rattle.craig_watch.specs.Trail.{Trail, value_under, IsFalse}
 use Rattle.craig_watch.specs.Held.{HeldView, held_clause, IsSettled, IsComplete, IsConsistent, IsLengthened}
-use Rattle.craig_watch.specs.Standing.{HasSeen, IsSettledAt, IsLonger, HasWalked}
+use Rattle.craig_watch.specs.Standing.{HasSeen, IsSettledAt, IsLonger, HasWalked, AddsForced}
 use Rattle.craig_watch.proofs.TrailLemmas.{length-le_from_known}
 use Rattle.craig_watch.proofs.HeldLemmas.{All-member}
 
@@ -88,9 +88,17 @@ settled-second t c i x (Some l) b v apart within is h b_is some_is v_is free =
 pub all-false : (t : Trail) (c : Clause) (i : ℕ) (free : Option Literal) → HasSeen t (take i c) free → free ≡ None → length c ≤ i → All (IsFalse t) c
 all-false t c i free h none past = subst (All (IsFalse t)) (take_all i c past) (subst (HasSeen t (take i c)) none h)
 
+-- the same arena
+pub reordered-none : (a : ArenaView) → OnlyReorders a a
+reordered-none a = record {
+  given = refl;
+  stays = λ id c is. (c, is, record { literals = λ l. (λ h. h, λ h. h); flags = refl });
+  stood = λ id c is. (c, is, record { literals = λ l. (λ h. h, λ h. h); flags = refl });
+}
+
 -- nothing was added
-pub IsLengthened-none : (h : HeldView) → IsLengthened h h
-IsLengthened-none h = record {
+pub AddsForced-none : (h : HeldView) → AddsForced h h
+AddsForced-none h = record {
   added = [];
   trail = λ i. record { arena = h.arena; vars = h.vars; trail = sym (append-nil h.trail) i; level = h.level; dead = h.dead };
   level = λ k d w. absurd (omega arith);
@@ -98,8 +106,8 @@ IsLengthened-none h = record {
 }
 
 -- lengthened twice
-pub IsLengthened-twice : (old mid new : HeldView) → IsLengthened old mid → IsLengthened mid new → IsLengthened old new
-IsLengthened-twice old mid new one two =
+pub AddsForced-twice : (old mid new : HeldView) → AddsForced old mid → AddsForced mid new → AddsForced old new
+AddsForced-twice old mid new one two =
     let level : mid.level ≡ old.level = ap (λ (h : HeldView). h.level) one.trail in
     let trail : mid.trail ≡ old.trail ++ one.added = ap (λ (h : HeldView). h.trail) one.trail in
     let later : All (λ (e : TrailEntry). e.level ≡ old.level) two.added = λ k d w. two.level k d w ∙ level in
@@ -110,6 +118,19 @@ IsLengthened-twice old mid new one two =
       level = All-append (λ (e : TrailEntry). e.level ≡ old.level) one.added two.added one.level later;
       reason = All-append (λ (e : TrailEntry). IsSome e.reason) one.added two.added one.reason two.reason;
     }
+
+-- clauses keep even the order of their literals
+pub IsLengthened-forced : (old new : HeldView) → AddsForced old new → IsLengthened old new
+IsLengthened-forced old new h = record {
+  clauses = subst (OnlyReorders old.arena) (sym (ap (λ (g : HeldView). g.arena) h.trail)) (reordered-none old.arena);
+  vars = ap (λ (g : HeldView). g.vars) h.trail;
+  present = ap (λ (g : HeldView). g.level) h.trail;
+  dead = ap (λ (g : HeldView). g.dead) h.trail;
+  added = h.added;
+  trail = ap (λ (g : HeldView). g.trail) h.trail;
+  level = h.level;
+  reason = h.reason;
+}
 
 -- a walk goes on
 pub walked-nothing : (n : ℕ) (old mid new : HeldView) (changed : Bool) → HasWalked n old mid changed → new ≡ mid → IsSettledAt mid n → HasWalked (n + 1) old new changed
@@ -122,9 +143,9 @@ walked-nothing n old mid new false h same settled = (
   ],
 )
 
-pub walked-lengthened : (n : ℕ) (old mid new : HeldView) (changed : Bool) → HasWalked n old mid changed → IsLengthened mid new → IsLengthened old new
-walked-lengthened n old mid new true h longer = IsLengthened-twice old mid new h.0 longer
-walked-lengthened n old mid new false h longer = subst (λ (g : HeldView). IsLengthened g new) h.0 longer
+pub walked-lengthened : (n : ℕ) (old mid new : HeldView) (changed : Bool) → HasWalked n old mid changed → AddsForced mid new → AddsForced old new
+walked-lengthened n old mid new true h longer = AddsForced-twice old mid new h.0 longer
+walked-lengthened n old mid new false h longer = subst (λ (g : HeldView). AddsForced g new) h.0 longer
 
 walked-length : (n : ℕ) (old mid : HeldView) (changed : Bool) → HasWalked n old mid changed → length old.trail ≤ length mid.trail
 walked-length n old mid true h = let more = h.1 in omega arith

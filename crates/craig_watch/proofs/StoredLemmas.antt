@@ -4,10 +4,10 @@ use Rattle.std.proofs.lemmas.List.{length_push, length-set, map-append, same_fro
 use Rattle.craig_spec.specs.Literal.{Literal}
 use Rattle.craig_base.specs.Arena.{ArenaView}
 use Rattle.craig_watch.specs.declared.trail_entry.TrailEntry.{TrailEntry}
-use Rattle.craig_watch.specs.Trail.{Trail, entry_of, decisions}
+use Rattle.craig_watch.specs.Trail.{Trail, entry_of, decisions, AreDistinct}
 use Rattle.craig_watch.specs.Held.{HeldView, IsConsistent, with_entry}
 use Rattle.craig_watch.specs.HeldFields.{ArePlaces, IsStored}
-use Rattle.craig_watch.proofs.TrailLemmas.{AreDistinct, entry_of-absent, get_or-last, length-le_from_known}
+use Rattle.craig_watch.proofs.TrailLemmas.{entry_of-absent, get_or-last, length-le_from_known}
 use Rattle.craig_watch.proofs.HeldFieldsLemmas.{ArePlaces-push, ArePlaces-popped, ArePlaces-grown}
 use Rattle.craig_watch.proofs.HeldLemmas.{IsConsistent-popped, IsConsistent-known}
 

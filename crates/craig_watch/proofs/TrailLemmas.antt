@@ -14,13 +14,10 @@ use Rattle.craig_spec.specs.Literal.{Literal}
 use Rattle.craig_watch.specs.declared.trail_entry.TrailEntry.{TrailEntry}
 use Rattle.craig_watch.specs.declared.value.Value.{Value}
 use Rattle.craig_watch.specs.declared.value.Value.TheVariants.{True, False, Free}
-use Rattle.craig_watch.specs.Trail.{Trail, entry_of, value_beside, value_under, part_up_to, decisions, AreLevels}
+use Rattle.craig_watch.specs.Trail.{Trail, entry_of, value_beside, value_under, part_up_to, decisions, AreLevels, AreDistinct}
 
 pub any_entry : TrailEntry
 any_entry = record { literal = record { var = 0; negated = false }; level = 0; reason = None }
-
-abbrev pub AreDistinct : Trail → Type 0
-AreDistinct t = AllPairs (λ e f. e.literal.var ≢ f.literal.var) t
 
 -- a variable of no entry
 pub entry_of-absent : (t : Trail) (v : ℕ) → ((k : ℕ) (d : TrailEntry) → k < length t → (get_or t k d).literal.var ≢ v) → entry_of t v ≡ None
@@ -176,7 +173,7 @@ decisions-push t e = sum_by-append (λ (f : TrailEntry). cond (is_none f.reason)
 abbrev level_before : Trail → TrailEntry → Type 0
 level_before t e = e.level ≡ decisions t + cond (is_none e.reason) 1 0
 
-levels-before : (t : Trail) → AreLevels t → (k : ℕ) (d : TrailEntry) → k < length t → level_before (take k t) (get_or t k d)
+pub levels-before : (t : Trail) → AreLevels t → (k : ℕ) (d : TrailEntry) → k < length t → level_before (take k t) (get_or t k d)
 levels-before t h k d w = h k d w ∙ ap decisions (take-suc t k d w) ∙ decisions-push (take k t) (get_or t k d)
 
 levels-from_before : (t : Trail) → ((k : ℕ) (d : TrailEntry) → k < length t → level_before (take k t) (get_or t k d)) → AreLevels t

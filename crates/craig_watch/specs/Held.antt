@@ -1,13 +1,12 @@
 -- Held clauses and their trail.
-use Rattle.std.specs.Prelude.{◌≡◌, ◌≢◌, ◌⊎◌, ℕ, ◌<◌, ◌≤◌, Bool, false, [], ◌∷◌, ◌++◌, Option, Some, IsSome, length, take, All, AllPairs, Contains, slice_index_or}
-use Rattle.std.specs.Option.{option_map}
+use Rattle.std.specs.Prelude.{◌≡◌, ◌≢◌, ◌⊎◌, ℕ, ◌<◌, ◌≤◌, Bool, true, false, [], ◌∷◌, ◌++◌, Option, Some, IsSome, length, take, All, Contains, slice_index_or}
 use Rattle.craig_spec.specs.Literal.{Literal, Clause}
 use Rattle.craig_base.specs.declared.clause_id.ClauseId.{ClauseId}
-use Rattle.craig_base.specs.Arena.{ArenaView, clause_at}
+use Rattle.craig_base.specs.Arena.{ArenaView, IsArena, OnlyReorders, literals_of}
 use Rattle.craig_base.specs.Clauses.{IsNormal}
 use Rattle.craig_watch.specs.declared.trail_entry.TrailEntry.{TrailEntry}
 use Rattle.craig_watch.specs.declared.value.Value.TheVariants.{True, False, Free}
-use Rattle.craig_watch.specs.Trail.{Trail, entry_of, value_under, IsFalse, part_up_to, decisions, AreLevels}
+use Rattle.craig_watch.specs.Trail.{Trail, entry_of, value_under, IsFalse, part_up_to, decisions, AreLevels, AreDistinct}
 
 -- the clauses, how many variables are known, the trail, the present level, and whether memory was refused
 pub record HeldView : Type 0 where
@@ -19,7 +18,7 @@ pub record HeldView : Type 0 where
 
 -- the literals of the clause that is held under the id
 abbrev pub held_clause : ArenaView → ℕ → Option Clause
-held_clause a id = option_map (λ c. c.literals) (clause_at a id)
+held_clause a id = literals_of a id
 
 -- two different literals of the clause are free
 abbrev pub HasTwoFree : Trail → Clause → Type 0
@@ -62,10 +61,11 @@ AreClauses a vars = (id : ℕ) (c : Clause) → held_clause a id ≡ Some c → 
 pub record IsConsistent (h : HeldView) : Type 0 where
   -- the literals of each variable fit their type
   pub few : h.vars ≤ 2147483648
+  pub arena : IsArena h.arena
   pub clauses : AreClauses h.arena h.vars
   pub known : All (λ e. e.literal.var < h.vars) h.trail
   -- no variable is assigned twice
-  pub distinct : AllPairs (λ e f. e.literal.var ≢ f.literal.var) h.trail
+  pub distinct : AreDistinct h.trail
   pub levels : AreLevels h.trail
   -- the present level is the number of decisions
   pub level : h.level ≡ decisions h.trail
@@ -101,12 +101,22 @@ pub record IsAsserting (t : Trail) (level : ℕ) (c : Clause) : Type 0 where
 abbrev pub MayBeHeld : HeldView → Clause → Type 0
 MayBeHeld h c = (h.level ≡ 0) ⊎ (HasTwoNotFalse h.trail c ⊎ IsAsserting h.trail h.level c)
 
--- the same clauses, and the trail lengthened by literals of the present level that clauses forced
+-- the trail was lengthened by literals of the present level that clauses forced; the clauses are the same but for the order of their literals
 pub record IsLengthened (old new : HeldView) : Type 0 where
+  pub clauses : OnlyReorders old.arena new.arena
+  pub vars : new.vars ≡ old.vars
+  pub present : new.level ≡ old.level
+  pub dead : new.dead ≡ old.dead
   pub added : Trail
-  pub trail : new ≡ record old { trail = old.trail ++ added }
+  pub trail : new.trail ≡ old.trail ++ added
   pub level : All (λ e. e.level ≡ old.level) added
   pub reason : All (λ e. IsSome e.reason) added
+
+-- memory was refused: the clauses are the same but for the order of their literals, and nothing is said of the trail
+pub record IsRefused (old new : HeldView) : Type 0 where
+  pub clauses : OnlyReorders old.arena new.arena
+  pub vars : new.vars ≡ old.vars
+  pub dead : new.dead ≡ true
 
 -- the clause is held, and all its literals are false
 abbrev pub IsFalsified : HeldView → ℕ → Type 0

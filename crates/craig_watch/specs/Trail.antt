@@ -1,7 +1,8 @@
 -- Trails: the literals that are assigned, in the order in which they were assigned.
-use Rattle.std.specs.Prelude.{◌≡◌, ℕ, suc, ◌<◌, List, [], ◌∷◌, Option, Some, None, IsSome, is_none, nat_eq, nat_le, length, take, count_by, slice_index_or, if◌then◌else◌}
+use Rattle.std.specs.Prelude.{◌≡◌, ◌≢◌, ℕ, suc, ◌<◌, not, map, filter, AllPairs, List, [], ◌∷◌, Option, Some, None, IsSome, is_none, nat_eq, nat_le, length, take, count_by, slice_index_or, if◌then◌else◌}
 use Rattle.std.specs.Option.{option_map_or}
 use Rattle.craig_spec.specs.Literal.{Literal}
+use Rattle.craig_spec.specs.Truth.{Assignment}
 use Rattle.craig_watch.specs.declared.trail_entry.TrailEntry.{TrailEntry}
 use Rattle.craig_watch.specs.declared.value.Value.{Value}
 use Rattle.craig_watch.specs.declared.value.Value.TheVariants.{True, False, Free}
@@ -44,3 +45,15 @@ decisions t = count_by (λ e. is_none e.reason) t
 -- the level of each literal is the number of decisions up to it
 abbrev pub AreLevels : Trail → Type 0
 AreLevels t = (k : ℕ) (d : TrailEntry) → k < length t → (slice_index_or t k d).level ≡ decisions (take (suc k) t)
+
+-- no variable is assigned twice
+abbrev pub AreDistinct : Trail → Type 0
+AreDistinct t = AllPairs (λ e f. e.literal.var ≢ f.literal.var) t
+
+-- the level at which the literal's variable was assigned, 0 where it is free
+abbrev pub level_at : Trail → Literal → ℕ
+level_at t l = option_map_or (λ e. e.level) (entry_of t l.var) 0
+
+-- the variables that the trail makes true
+abbrev pub assignment_of : Trail → Assignment
+assignment_of t = map (λ e. e.literal.var) (filter (λ e. not e.literal.negated) t)

@@ -1,7 +1,7 @@
 //! Held clauses and their trail.
 ghost use Rattle.std.specs.Prelude.{◌≡◌, ◌≢◌, ◌+◌, ◌<◌, ◌≤◌, [], ◌∷◌, ◌++◌, true, Some, None, All, IfOk, OnOk, OnErr, IsErr, length, map, max, nat_lt, slice_get};
 ghost use Rattle.std.specs.Option.{option_map};
-ghost use Rattle.craig_base.specs.Arena.{IsLive, ChangesOnly, changed, with_clause, with_id, without};
+ghost use Rattle.craig_base.specs.Arena.{IsLive, ChangesClause, ChangesOnly, changed, clause_at, with_clause, with_id, without};
 ghost use Rattle.craig_base.specs.Clauses.{IsNormal};
 ghost use Rattle.craig_watch.specs.Trail.{IsAssigned, entry_of, part_up_to, value_under};
 ghost use Rattle.craig_watch.specs.Held.{IsComplete, IsConsistent, IsTaken, MayBeHeld, nothing_held, with_entry};
@@ -17,9 +17,9 @@ use std::marker::Model;
 ///
 /// Variables and literals are dense. Contracts see the clauses, the number of known variables, the trail, the
 /// present decision level, and whether memory was refused. Each literal on the trail has its level, which is the
-/// number of decisions up to it, and its reason, a held clause whose other literals were false before. After an
-/// `AllocError` the value is dead: nothing else has changed, and each later call that can answer `AllocError`
-/// does so.
+/// number of decisions up to it, and, unless it was decided, its reason, a held clause whose other literals were
+/// false before. After an `AllocError` the value is dead: the clauses are the same, and each later call that can
+/// answer `AllocError` does so.
 #[derive(Drop)]
 pub struct Held {
     arena: Arena,
@@ -96,6 +96,7 @@ impl Held {
     pub fn number(&mut self) -> Result<ClauseId, AllocError>
         ensures numbered { OnOk result (self.new ≡ record self.old { arena = with_id self.old.arena }) }
         ensures next { IfOk result (λ id. id.0 ≡ self.old.arena.given) }
+        ensures fresh { IfOk result (λ id. clause_at self.old.arena id.0 ≡ None) }
         ensures dead { OnErr result (self.new ≡ record self.old { dead = true }) }
         ensures refused { self.old.dead ≡ true → IsErr result }
         ensures consistent { IsConsistent self.new }
@@ -115,6 +116,7 @@ impl Held {
         requires fits { MayBeHeld self.old lits.now }
         ensures held { OnOk result (self.new ≡ record self.old { arena = with_clause self.old.arena (record { literals = lits.now; flags = flags }) }) }
         ensures next { IfOk result (λ id. id.0 ≡ self.old.arena.given) }
+        ensures fresh { IfOk result (λ id. clause_at self.old.arena id.0 ≡ None) }
         ensures only { IfOk result (λ id. ChangesOnly self.old.arena self.new.arena id.0 (Some (record { literals = lits.now; flags = flags }))) }
         ensures dead { OnErr result (self.new ≡ record self.old { dead = true }) }
         ensures refused { self.old.dead ≡ true → IsErr result }
@@ -123,8 +125,6 @@ impl Held {
         if self.dead {
             return Err(AllocError);
         }
-        // so that no clause is held under the next id yet
-        let _ = self.arena.given();
         let id = self.arena.add(lits, flags);
         self.dead = id.is_err();
         id
@@ -145,6 +145,7 @@ impl Held {
     pub fn set_flags(&mut self, id: ClauseId, flags: Flags)
         requires { IsLive self.old.arena id.0 }
         ensures changed { self.new ≡ record self.old { arena = changed (λ c. record c { flags = flags }) self.old.arena id.0 } }
+        ensures only { ChangesClause self.old.arena self.new.arena id.0 (λ c. record c { flags = flags }) }
         ensures consistent { IsConsistent self.new }
     {
         self.arena.set_flags(id, flags);

@@ -1,7 +1,7 @@
 //! Unit propagation by a plain walk over all held clauses until nothing changes.
-ghost use Rattle.std.specs.Prelude.{◌≡◌, true, None, IfOk, IfSome, OnOk, OnErr, IsErr};
+ghost use Rattle.std.specs.Prelude.{◌≡◌, ◌≢◌, ◌<◌, true, None, IfOk, IfSome, OnOk, OnErr, IsErr};
 ghost use Rattle.craig_base.specs.Arena.{IsLive, literals_at};
-ghost use Rattle.craig_watch.specs.Held.{IsComplete, IsConsistent, IsFalsified, IsLengthened};
+ghost use Rattle.craig_watch.specs.Held.{IsComplete, IsConsistent, IsFalsified, IsLengthened, IsRefused};
 ghost use Rattle.craig_watch.specs.Standing.{HasLooked, IsSettledAt, StandsSo};
 
 use crate::held::Held;
@@ -14,12 +14,13 @@ use std::alloc::AllocError;
 
 impl Held {
     /// Assigns what held clauses force until nothing changes or a held clause is false, whose id is given then.
-    /// Propagation is complete where none is given.
+    /// Propagation is complete where none is given. The literals of a clause may change their order. After an error
+    /// nothing is said of the trail but that it is consistent.
     pub fn propagate(&mut self) -> Result<Option<ClauseId>, AllocError>
         ensures lengthened { OnOk result (IsLengthened self.old self.new) }
         ensures complete { IfOk result (λ conflict. conflict ≡ None → IsComplete self.new.arena self.new.trail) }
         ensures falsified { IfOk result (λ conflict. IfSome conflict (λ id. IsFalsified self.new id.0)) }
-        ensures dead { OnErr result (self.new ≡ record self.old { dead = true }) }
+        ensures dead { OnErr result (IsRefused self.old self.new) }
         ensures refused { self.old.dead ≡ true → IsErr result }
         ensures consistent { IsConsistent self.new }
     {
@@ -160,6 +161,65 @@ mod tests {
         held.back_to(0);
         assert_eq!(rt; held.level(), 0);
         assert!(rt; held.value(v0) == Value::Free);
+        Ok(())
+    }
+
+    // Propagates and then decides the literal, where it may be decided.
+    fn decide_next(held: &mut Held, lit: Lit) -> Result<bool, AllocError>
+        ensures { held.new.vars ≡ held.old.vars }
+    {
+        if !held.known(lit.var()) {
+            return Ok(false);
+        }
+        let None = held.propagate()? else {
+            return Ok(false);
+        };
+        if held.value(lit) != Value::Free {
+            return Ok(false);
+        }
+        held.decide(lit);
+        Ok(true)
+    }
+
+    // Holds the clause of the two literals, where the first is free and the second was made false at this level.
+    fn hold_asserting(held: &mut Held, first: Lit, second: Lit) -> Result<bool, AllocError>
+        requires first { first.var < held.old.vars }
+        requires second { second.var < held.old.vars }
+        requires apart { first.var ≢ second.var }
+        ensures { held.new.vars ≡ held.old.vars }
+    {
+        if held.value(first) != Value::Free || held.value(second) != Value::False {
+            return Ok(false);
+        }
+        if held.level_of(second.var()) != held.level() {
+            return Ok(false);
+        }
+        held.hold(&[first, second], FLAGS)?;
+        Ok(true)
+    }
+
+    #[test]
+    fn a_learnt_clause_is_held_at_a_middle_level(rt: HostRuntime) -> Result<(), Fail> {
+        let mut held = Held::new(rt.alloc());
+        let v0 = Lit::new(Var(0), false);
+        let v1 = Lit::new(Var(1), false);
+        let v2 = Lit::new(Var(2), false);
+        let v3 = Lit::new(Var(3), false);
+        held.grow(4)?;
+        held.hold(&[v0.not(), v1.not(), v2], FLAGS)?;
+        held.hold(&[v0.not(), v1.not(), v2.not()], FLAGS)?;
+        assert!(rt; decide_next(&mut held, v0)?);
+        assert!(rt; decide_next(&mut held, v3)?);
+        assert!(rt; decide_next(&mut held, v1)?);
+        assert!(rt; held.propagate()?.is_some());
+        assert_eq!(rt; held.level(), 3);
+        held.back_to(1);
+        assert!(rt; held.value(v3) == Value::Free);
+        assert!(rt; hold_asserting(&mut held, v1.not(), v0.not())?);
+        assert!(rt; held.propagate()?.is_none());
+        assert!(rt; held.value(v1) == Value::False);
+        assert_eq!(rt; held.reason(Var(1)), Some(ClauseId(2)));
+        assert_eq!(rt; held.level_of(Var(1)), 1);
         Ok(())
     }
 

@@ -1,5 +1,5 @@
 use Rattle.std.proofs.Common.{◌<◌, arith, length}
-use Rattle.craig_base.proofs.ArenaLemmas.{within-live, arena_of-without, ChangesOnly-table}
+use Rattle.craig_base.proofs.ArenaLemmas.{within-live, arena_of-without, ChangesOnly-table, IsArena-table}
 use Rattle.craig_base.proofs.arena.Arena.kill.Goals as goal
 
 pub index_mut-requires : goal.index_mut-requires
@@ -12,3 +12,6 @@ returns-clause-without c = rw (← c.self.view_is) (arena_of-without c.self.insi
 
 pub returns-clause-only : goal.returns-clause-only
 returns-clause-only c = rw (← c.self.view_is) (ChangesOnly-table c.self.inside.entries.items c.args.id.0)
+
+pub returns-clause-is_arena : goal.returns-clause-is_arena
+returns-clause-is_arena c = IsArena-table _

@@ -1,5 +1,5 @@
 use Rattle.std.proofs.Common.{◌≡◌, true, false, ◌<◌, arith, length, refl, ◌∙◌}
-use Rattle.craig_base.proofs.ArenaLemmas.{within-live, entry-live, is_some-live, arena_of-changed, ChangesClause-table}
+use Rattle.craig_base.proofs.ArenaLemmas.{within-live, entry-live, is_some-live, arena_of-changed, ChangesClause-table, IsArena-table}
 use Rattle.craig_base.proofs.arena.Arena.set_flags.Goals as goal
 
 pub index_mut-requires : goal.index_mut-requires
@@ -26,3 +26,9 @@ pub returns-clause-only : goal.returns-clause-only
 returns-clause-only c =
     let there = entry-live c.self.inside.entries.items c.args.id.0 c.index_mut.result.now (rw (← c.self.view_is) at c.requires) c.index_mut.ensures.value ∙ c.in-Some.is in
     rw (← c.self.view_is) (ChangesClause-table _ c.self.inside.entries.items c.args.id.0 c.in-Some.clause _ there refl)
+
+pub returns-in_default-clause-is_arena : goal.returns-in_default-clause-is_arena
+returns-in_default-clause-is_arena c = IsArena-table _
+
+pub returns-clause-is_arena : goal.returns-clause-is_arena
+returns-clause-is_arena c = IsArena-table _

@@ -1,6 +1,6 @@
 use Rattle.std.specs.List.{swap}
 use Rattle.std.proofs.Common.{◌≡◌, true, false, ◌<◌, arith, length, refl, ◌∙◌}
-use Rattle.craig_base.proofs.ArenaLemmas.{within-live, entry-live, is_some-live, literals_at-entry, arena_of-written, ChangesClause-written}
+use Rattle.craig_base.proofs.ArenaLemmas.{within-live, entry-live, is_some-live, literals_at-entry, arena_of-written, ChangesClause-written, IsArena-table}
 use Rattle.craig_base.proofs.arena.Arena.swap.Goals as goal
 
 pub index_mut-requires : goal.index_mut-requires
@@ -41,3 +41,9 @@ swap-requires-clause-right c =
     let same = literals_at-entry c.self.inside.entries.items c.args.id.0 c.in-Some.clause there in
     let within : c.args.right < length c.in-Some.clause.literals.items = rw (← c.self.view_is, same) at c.requires.right in
     omega (arith, c.in-Some.clause.literals.ok.0)
+
+pub returns-in_default-clause-is_arena : goal.returns-in_default-clause-is_arena
+returns-in_default-clause-is_arena c = IsArena-table _
+
+pub returns-clause-is_arena : goal.returns-clause-is_arena
+returns-clause-is_arena c = IsArena-table _

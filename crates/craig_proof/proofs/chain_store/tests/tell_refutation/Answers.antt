@@ -1,7 +1,7 @@
 use Rattle.std.proofs.Common.{◌≡◌, [], ◌∷◌, refl, ◌∙◌, arith}
 use Rattle.std.proofs.lemmas.Result.{on_ok_weaker}
 use Rattle.craig_proof.specs.Tracer.{original_step}
-use Rattle.craig_proof.proofs.CallerLemmas.{before_step, greatest_is, three_steps, ChainOk-units, IsUnforgotten-units, IsUnforgotten-last, is_some-told}
+use Rattle.craig_proof.proofs.CallerLemmas.{before_step, greatest_is, three_steps, ChainOk-units, IsUnforgotten-units, IsUnforgotten-last, IsUnforgotten-told, is_some-told}
 use Rattle.craig_proof.proofs.chain_store.tests.tell_refutation.Goals as goal
 
 pub original-requires-2-clause-above : goal.original-requires-2-clause-above
@@ -42,4 +42,5 @@ pub returns : goal.returns
 returns g c = record {
   told = on_ok_weaker c.derived.result (λ told t is.
       IsUnforgotten-last _ _ _ told (c.in_ok-original-3.ensures.tells ∙ c.in_ok-original-2.ensures.tells ∙ c.in_ok-original.ensures.tells ∙ is_some-told _ t is) refl) c.derived.ensures.told;
+  unforgotten = on_ok_weaker c.derived.result (λ told u is. IsUnforgotten-told _ _ _ u told is refl) c.derived.ensures.told;
 }

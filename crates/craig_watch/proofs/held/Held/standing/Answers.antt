@@ -12,7 +12,7 @@ value-requires c =
     let a = c.args.self.now.arena in
     let items : Clause = literals_at a c.args.id.0 in
     let ok = c.arena.ensures.consistent in
-    let same : c.lits-lit-items.result.now ≡ items = c.lits-lit-items.ensures ∙ ap (λ (b : ArenaView). literals_at b c.args.id.0) c.arena.ensures.value in
+    let same : c.lits-lit-items.result.now ≡ items = c.lits-lit-items.ensures.literals ∙ ap (λ (b : ArenaView). literals_at b c.args.id.0) c.arena.ensures.value in
     let clause = ok.clauses c.args.id.0 items (held_clause-live a c.args.id.0 c.requires) in
     let known : All (λ (l : Literal). l.var < c.args.self.now.vars) c.lits-lit-items.result.now = subst (All (λ (l : Literal). l.var < c.args.self.now.vars)) (sym same) clause.1 in
     subst (λ (l : Literal). l.var < c.args.self.now.vars) (sym c.lit-item.is) (known c.loop-lit.lit-index c.lit-item.result c.loop-lit-test.true)
@@ -22,7 +22,7 @@ returns-then-is_some c =
     let a = c.args.self.now.arena in
     let items : Clause = literals_at a c.args.id.0 in
     let ok = c.arena.ensures.consistent in
-    let same : c.lits-lit-items.result.now ≡ items = c.lits-lit-items.ensures ∙ ap (λ (b : ArenaView). literals_at b c.args.id.0) c.arena.ensures.value in
+    let same : c.lits-lit-items.result.now ≡ items = c.lits-lit-items.ensures.literals ∙ ap (λ (b : ArenaView). literals_at b c.args.id.0) c.arena.ensures.value in
     let clause = ok.clauses c.args.id.0 items (held_clause-live a c.args.id.0 c.requires) in
     let apart : AllPairs (λ (l m : Literal). l ≢ m) c.lits-lit-items.result.now = subst (AllPairs (λ (l m : Literal). l ≢ m)) (sym same) clause.0.distinct in
     subst (IsSettled c.args.self.now.trail) same (settled-second c.args.self.now.trail c.lits-lit-items.result.now c.loop-lit.lit-index c.lit-item.result c.loop-lit.free c.is_some.result c.value.result apart c.loop-lit-test.true c.lit-item.is c.loop-lit.invariant c.is_some.ensures c.if-is_some.true c.value.ensures c.in-Free.is)
@@ -39,6 +39,6 @@ returns-in-None c =
     let a = c.args.self.now.arena in
     let items : Clause = literals_at a c.args.id.0 in
     let ok = c.arena.ensures.consistent in
-    let same : c.lits-lit-items.result.now ≡ items = c.lits-lit-items.ensures ∙ ap (λ (b : ArenaView). literals_at b c.args.id.0) c.arena.ensures.value in
+    let same : c.lits-lit-items.result.now ≡ items = c.lits-lit-items.ensures.literals ∙ ap (λ (b : ArenaView). literals_at b c.args.id.0) c.arena.ensures.value in
     let clause = ok.clauses c.args.id.0 items (held_clause-live a c.args.id.0 c.requires) in
     subst (All (IsFalse c.args.self.now.trail)) same (all-false c.args.self.now.trail c.lits-lit-items.result.now c.loop-lit.lit-index c.loop-lit.free c.loop-lit.invariant c.in-None.is c.loop-lit-test.false)

@@ -1,0 +1,64 @@
+-- Circuits of inputs, two-input gates and named outputs, and what their literals mean.
+--
+-- Variable 0 is the constant false, the variables from 1 on are the inputs in order, and then come the gates.
+-- Literal 2v is variable v, and literal 2v + 1 its negation. After Biere, the AIGER and-inverter graph format.
+use Rattle.std.specs.Prelude.{◌≡◌, ℕ, ◌+◌, ◌<◌, ◌/◌, ◌%◌, Bool, false, not, ◌&&◌, ◌==◌, List, [], ◌∷◌, ◌++◌, length, map, slice_get, Some, slice_index_or, if◌then◌else◌, All}
+use Rattle.std.specs.List.{fold}
+use Rattle.craig_spec.specs.Truth.{Assignment, variable_value}
+
+-- a gate is true where both of its operand literals are
+pub record Gate : Type 0 where
+  pub left : ℕ
+  pub right : ℕ
+
+-- a literal with a name, which is a list of bytes
+pub record Output : Type 0 where
+  pub name : List ℕ
+  pub literal : ℕ
+
+-- the input variables, the gates and the outputs, each in order
+pub record Circuit : Type 0 where
+  pub inputs : List ℕ
+  pub gates : List Gate
+  pub outputs : List Output
+
+-- the number of variables, the constant counted in
+abbrev pub variable_count : Circuit → ℕ
+variable_count c = 1 + length c.inputs + length c.gates
+
+-- each gate has operands below its own literal, and each output is a literal of the circuit
+pub record IsCircuit (c : Circuit) : Type 0 where
+  pub operands : (j : ℕ) (g : Gate) → slice_get c.gates j ≡ Some g → (g.left / 2 < 1 + length c.inputs + j) × (g.right / 2 < 1 + length c.inputs + j)
+  pub literals : All (λ o. o.literal / 2 < variable_count c) c.outputs
+
+-- what each variable has, where the constant and the inputs have the first things, and f says what a gate has from what the variables before it have
+unfoldable pub each_variable : {T : Type 0} → (List T → Gate → T) → List T → List Gate → List T
+each_variable f first gates = fold (λ before gate. before ++ f before gate ∷ []) first gates
+
+-- the value of a literal, given those of the variables
+abbrev pub literal_value_in : List Bool → ℕ → Bool
+literal_value_in values l = if l % 2 == 1 then not (slice_index_or values (l / 2) false) else slice_index_or values (l / 2) false
+
+-- the value of a gate, given those of the variables before it
+abbrev pub gate_value : List Bool → Gate → Bool
+gate_value before g = literal_value_in before g.left && literal_value_in before g.right
+
+-- the values of the variables of a circuit
+abbrev pub circuit_values : Assignment → List ℕ → List Gate → List Bool
+circuit_values s inputs gates = each_variable gate_value (false ∷ map (variable_value s) inputs) gates
+
+-- the value of a literal of a circuit
+abbrev pub circuit_value : Assignment → Circuit → ℕ → Bool
+circuit_value s c l = literal_value_in (circuit_values s c.inputs c.gates) l
+
+-- the input variables that a gate reaches, given those that the variables before it reach; some may stand twice
+abbrev pub gate_cone : List (List ℕ) → Gate → List ℕ
+gate_cone before g = slice_index_or before (g.left / 2) [] ++ slice_index_or before (g.right / 2) []
+
+-- the input variables that each variable of a circuit reaches
+abbrev pub circuit_cones : List ℕ → List Gate → List (List ℕ)
+circuit_cones inputs gates = each_variable gate_cone ([] ∷ map (λ x. x ∷ []) inputs) gates
+
+-- the input variables that a literal of a circuit reaches through the operands of gates
+abbrev pub circuit_cone : Circuit → ℕ → List ℕ
+circuit_cone c l = slice_index_or (circuit_cones c.inputs c.gates) (l / 2) []

@@ -55,7 +55,7 @@ node_cone-placed nodes i (Gate left right) within h =
     let r : cone (take i nodes) right ≡ cone nodes right = (KeepsEdge-take nodes i right within (omega arith)).cone_is in
     ap (λ c. c ++ cone (take i nodes) right) l ∙ ap (λ c. cone nodes left ++ c) r
 
-placed_at : (nodes : List Node) (i : ℕ) (n : Node) → IsArena nodes → slice_get nodes i ≡ Some n → IsPlaced i n
+pub placed_at : (nodes : List Node) (i : ℕ) (n : Node) → IsArena nodes → slice_get nodes i ≡ Some n → IsPlaced i n
 placed_at nodes i n h at = subst (IsPlaced i) (get_or_from_slice_get nodes i n Constant at) (h.placed i (slice_get_within nodes i n at))
 
 -- the value of a node, from its operands

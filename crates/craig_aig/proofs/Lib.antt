@@ -6,3 +6,4 @@ pub mod ConjunctionLemmas
 pub mod ShareLemmas
 pub mod TrueVariablesLemmas
 pub mod ValuesLemmas
+mod DependenceLemmas

@@ -1,4 +1,4 @@
-ghost use Rattle.std.specs.Prelude.{◌≡◌, ◌<◌, ◌≤◌, ◌⊎◌, ◌&&◌, ◌||◌, false, [], ◌∷◌, ℕ, List, length, take, Some, slice_get, Contains, IfOk, OnErr, if◌then◌else◌, not};
+ghost use Rattle.std.specs.Prelude.{◌≡◌, ◌+◌, ◌<◌, ◌≤◌, ◌⊎◌, ◌&&◌, ◌||◌, false, [], ◌∷◌, ℕ, List, length, take, Some, slice_get, Contains, IfOk, OnErr, if◌then◌else◌, not};
 ghost use Rattle.craig_spec.specs.Truth.{Assignment, variable_value};
 ghost use Rattle.craig_aig.specs.Arenas.{IsArena, IsPlaced};
 ghost use Rattle.craig_aig.specs.Cones.{cone, ConeWithin};
@@ -52,6 +52,7 @@ impl Aig {
     /// The edge that is true or false everywhere. It is of each arena.
     pub fn constant(value: bool) -> Edge
         ensures edge { result ≡ constant_edge value }
+        ensures within { (nodes : List Node) → IsArena nodes → result.place < length nodes }
         ensures computes { (s : Assignment) (nodes : List Node) → IsArena nodes → edge_value s nodes result ≡ value }
         ensures cone { (nodes : List Node) → IsArena nodes → cone nodes result ≡ [] }
     {
@@ -93,6 +94,7 @@ impl Aig {
         requires placed { IsPlaced (length self.old) node }
         ensures shared { IfOk result (IsShared self.old node self.new) }
         ensures extends { Extends self.old self.new }
+        ensures count { length self.new ≤ length self.old + 1 }
         ensures is_arena { IsArena self.new }
         ensures unchanged { OnErr result (self.new ≡ self.old) }
     {
@@ -111,6 +113,7 @@ impl Aig {
         ensures computes { IfOk result (λ e. (s : Assignment) → edge_value s self.new e ≡ variable_value s var.0) }
         ensures cone { IfOk result (λ e. cone self.new e ≡ var.0 ∷ []) }
         ensures extends { Extends self.old self.new }
+        ensures count { length self.new ≤ length self.old + 1 }
         ensures kept { KeepsEdges self.old self.new }
         ensures is_arena { IsArena self.new }
         ensures unchanged { OnErr result (self.new ≡ self.old) }
@@ -131,6 +134,7 @@ impl Aig {
         ensures computes { IfOk result (λ e. (s : Assignment) → edge_value s self.new e ≡ (edge_value s self.old left && edge_value s self.old right)) }
         ensures cone { IfOk result (ConeWithin self.old left right self.new) }
         ensures extends { Extends self.old self.new }
+        ensures count { length self.new ≤ length self.old + 1 }
         ensures kept { KeepsEdges self.old self.new }
         ensures is_arena { IsArena self.new }
         ensures unchanged { OnErr result (self.new ≡ self.old) }
@@ -153,6 +157,7 @@ impl Aig {
         ensures computes { IfOk result (λ e. (s : Assignment) → edge_value s self.new e ≡ (edge_value s self.old left || edge_value s self.old right)) }
         ensures cone { IfOk result (ConeWithin self.old left right self.new) }
         ensures extends { Extends self.old self.new }
+        ensures count { length self.new ≤ length self.old + 1 }
         ensures kept { KeepsEdges self.old self.new }
         ensures is_arena { IsArena self.new }
         ensures unchanged { OnErr result (self.new ≡ self.old) }
@@ -162,7 +167,8 @@ impl Aig {
     }
 
     /// The edge that has the value of `yes` where `select` is true, and that of `no` elsewhere, for three edges
-    /// of this arena. After an error all that was there is as before, and gates may be left that nothing names.
+    /// of this arena. It adds three gates at most. After an error all that was there is as before, and gates may
+    /// be left that nothing names.
     pub fn mux(&mut self, select: Edge, yes: Edge, no: Edge) -> Result<Edge, AllocError>
         requires select { select.place < length self.old }
         requires yes { yes.place < length self.old }
@@ -171,6 +177,7 @@ impl Aig {
         ensures computes { IfOk result (λ e. (s : Assignment) → edge_value s self.new e ≡ (if edge_value s self.old select then edge_value s self.old yes else edge_value s self.old no)) }
         ensures cone { IfOk result (λ e. (x : ℕ) → Contains (cone self.new e) x → Contains (cone self.old select) x ⊎ Contains (cone self.old yes) x ⊎ Contains (cone self.old no) x) }
         ensures extends { Extends self.old self.new }
+        ensures count { length self.new ≤ length self.old + 3 }
         ensures kept { KeepsEdges self.old self.new }
         ensures is_arena { IsArena self.new }
     {

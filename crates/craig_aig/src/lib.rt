@@ -9,6 +9,7 @@
 mod arena;
 mod conjunction;
 mod edge;
+mod laws;
 mod level;
 mod node;
 mod search;
@@ -16,5 +17,6 @@ mod value;
 
 pub use arena::Aig;
 pub use edge::Edge;
+pub use laws::values_by_cones;
 pub use level::Level;
 pub use node::Node;

@@ -1,0 +1,8 @@
+use Rattle.craig_aiger.proofs.RoundTripLemmas.{reads_as}
+use Rattle.craig_aiger.proofs.layout.Layout.write_aag.Goals as goal
+
+pub returns-in_err-reserve-clause-reads_back : goal.returns-in_err-reserve-clause-reads_back
+returns-in_err-reserve-clause-reads_back c = reads_as c.args.self.now c.size_of.ensures.is_writable
+
+pub returns-clause-reads_back : goal.returns-clause-reads_back
+returns-clause-reads_back c = reads_as c.args.self.now c.size_of.ensures.is_writable

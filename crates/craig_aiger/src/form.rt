@@ -1,0 +1,6 @@
+/// A form in which a layout is written.
+#[derive(Clone, Copy, Debug, PartialEq, Eq, Hash)]
+pub enum Form {
+    /// The ASCII form, whose first word is `aag`.
+    Aag,
+}

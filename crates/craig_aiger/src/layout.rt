@@ -1,0 +1,227 @@
+ghost use Rattle.std.specs.Prelude.{◌≡◌, ◌<◌, ◌++◌, ℕ, All, Contains, length, slice_get, Some, IfOk, IsOk, OnOk, OnErr};
+ghost use Rattle.craig_aig.specs.Cones.{cone};
+ghost use Rattle.craig_aiger.specs.Appending.{HasRoom};
+ghost use Rattle.craig_aiger.specs.AsciiText.{aag_text, text_in};
+ghost use Rattle.craig_aiger.specs.Layouts.{HasFunctions, IsLayout, IsWritable};
+ghost use Rattle.craig_aiger.specs.RoundTrip.{ReadsAs};
+
+use crate::ascii::append_text;
+use crate::inputs::input_names;
+use crate::needed::needed_nodes;
+use crate::numbering::{number_nodes, numbered_gates, numbered_outputs};
+use crate::size::text_size;
+use crate::{Form, OutName};
+use craig_aig::{Aig, Edge};
+use craig_base::Names;
+use std::alloc::{AllocError, Global};
+use std::marker::Model;
+
+// Where there are more nodes or outputs, memory counts as wanting.
+const LIMIT: usize = 1099511627776;
+
+/// The cones of some edges as a circuit: its inputs by rising script variable, its gates in the order of the
+/// arena, and an output for each edge.
+///
+/// Literal 0 is false and literal 1 is true. Literal 2v is variable v and 2v + 1 its negation, where the
+/// variables from 1 on are the inputs in order, and then the gates.
+#[derive(Debug, Drop)]
+pub struct Layout {
+    inputs: Vec<u32>,
+    gates: Vec<(u64, u64)>,
+    outputs: Vec<(OutName, u64)>,
+}
+
+impl Model for Layout {
+    ghost use Rattle.craig_aiger.specs.Layouts.{Layout, IsWritable};
+
+    ghost Value = { Layout };
+
+    ghost view = { λ l. record { inputs = l.inputs.items; gates = l.gates.items; outputs = l.outputs.items } };
+
+    ghost invariant = { λ l. IsWritable (record { inputs = l.inputs.items; gates = l.gates.items; outputs = l.outputs.items }) };
+}
+
+impl Layout {
+    /// The layout of the cones of the edges, each an output of the name beside it. The edges are of the arena,
+    /// and each dense variable of an input in their cones has a name. Only want of memory is an error. It takes
+    /// time and memory for the nodes of the arena, with a sort of the inputs. More than 2^40 nodes count as want
+    /// of memory, and so do as many outputs.
+    pub fn new(
+        alloc: Global,
+        aig: &Aig,
+        names: &Names,
+        outputs: &[(OutName, Edge)],
+    ) -> Result<Layout, AllocError>
+        requires edges { All (λ o. o.1.place < length aig.now) outputs.now }
+        requires inputs { All (λ o. (x : ℕ) → Contains (cone aig.now o.1) x → x < length names.now) outputs.now }
+        ensures layout { IfOk result (IsLayout aig.now names.now outputs.now) }
+        ensures functions { IfOk result (HasFunctions aig.now names.now outputs.now) }
+        ensures is_writable { IfOk result IsWritable }
+    {
+        if aig.len() > LIMIT || outputs.len() > LIMIT {
+            return Err(AllocError);
+        }
+        let table = needed_nodes(alloc, aig, outputs)?;
+        let nodes = table.as_slice();
+        let inputs = input_names(alloc, nodes, names)?;
+        let numbers = number_nodes(alloc, nodes, names, inputs.as_slice())?;
+        let numbers = numbers.as_slice();
+        let gates = numbered_gates(alloc, nodes, numbers)?;
+        let outputs = numbered_outputs(alloc, outputs, numbers)?;
+        Ok(Layout {
+            inputs,
+            gates,
+            outputs,
+        })
+    }
+
+    /// The script variables of the inputs, rising. Input i, counted from 0, is variable i + 1 of the circuit.
+    pub fn inputs(&self) -> &[u32]
+        ensures value { result.now ≡ self.now.inputs }
+        ensures is_writable { IsWritable self.now }
+    {
+        self.inputs.as_slice()
+    }
+
+    /// The operand literals of the gates, the greater first. Gate j, counted from 0, is variable I + j + 1 of
+    /// the circuit, where I is the number of inputs, and its operands are below its own literal.
+    pub fn gates(&self) -> &[(u64, u64)]
+        ensures value { result.now ≡ self.now.gates }
+        ensures is_writable { IsWritable self.now }
+    {
+        self.gates.as_slice()
+    }
+
+    /// The number of outputs.
+    pub fn outputs(&self) -> usize
+        ensures value { result ≡ length self.now.outputs }
+        ensures is_writable { IsWritable self.now }
+    {
+        self.outputs.len()
+    }
+
+    /// The name and the literal of the output at the place, counted from 0 in the order in which the outputs
+    /// were given.
+    pub fn output(&self, place: usize) -> (OutName, u64)
+        requires { place < length self.now.outputs }
+        ensures { slice_get self.now.outputs place ≡ Some result }
+    {
+        self.outputs[place]
+    }
+
+    /// The number of bytes of the layout's text in the form. It takes no memory, and time for the inputs, gates
+    /// and outputs.
+    pub fn size_of(&self, form: Form) -> u64
+        ensures value { result ≡ length (text_in form self.now) }
+        ensures is_writable { IsWritable self.now }
+    {
+        match form {
+            Form::Aag => text_size(
+                self.inputs.as_slice(),
+                self.gates.as_slice(),
+                self.outputs.as_slice(),
+            ),
+        }
+    }
+
+    /// Appends the ASCII text: a header line, a line for each input, each output and each gate, and then the
+    /// symbols, which give each input its script variable and each output its name. There are no comments.
+    /// The text is read back as a circuit whose outputs have, in order, the names, values and cones of the
+    /// layout's. It takes memory only where `out` has no room for the text, and once. After an error, for which
+    /// only want of memory is a cause, `out` is as before.
+    pub fn write_aag(&self, out: &mut Vec<u8>) -> Result<(), AllocError>
+        ensures text { OnOk result (out.new.items ≡ out.old.items ++ aag_text self.now) }
+        ensures room { HasRoom out.old (length (aag_text self.now)) → IsOk result }
+        ensures unchanged { OnErr result (out.new.items ≡ out.old.items) }
+        ensures reads_back { ReadsAs self.now (aag_text self.now) }
+    {
+        out.reserve(self.size_of(Form::Aag) as usize)?;
+        append_text(
+            out,
+            self.inputs.as_slice(),
+            self.gates.as_slice(),
+            self.outputs.as_slice(),
+        );
+        Ok(())
+    }
+}
+
+#[cfg(test)]
+mod tests {
+    use super::*;
+    use crate::Family;
+    use craig_base::Var;
+    use std::test::Fail;
+
+    // The conjunction of the inputs of two named variables.
+    fn both(aig: &mut Aig, names: &Names, left: Var, right: Var) -> Result<Edge, AllocError>
+        requires left { left.0 < length names.now }
+        requires right { right.0 < length names.now }
+        ensures edge { IfOk result (λ e. e.place < length aig.new) }
+        ensures inputs { IfOk result (λ e. (x : ℕ) → Contains (cone aig.new e) x → x < length names.now) }
+    {
+        let one = aig.input(left)?;
+        let two = aig.input(right)?;
+        aig.and(one, two)
+    }
+
+    // The layout of one output.
+    fn of_one(
+        alloc: Global,
+        aig: &Aig,
+        names: &Names,
+        name: OutName,
+        edge: Edge,
+    ) -> Result<Layout, AllocError>
+        requires edge { edge.place < length aig.now }
+        requires inputs { (x : ℕ) → Contains (cone aig.now edge) x → x < length names.now }
+    {
+        Layout::new(alloc, aig, names, &[(name, edge)])
+    }
+
+    #[test]
+    fn the_text_of_one_gate(rt: HostRuntime) -> Result<(), Fail> {
+        let mut names = Names::new(rt.alloc());
+        let first = names.dense(1)?;
+        let second = names.dense(2)?;
+        assert!(rt; first.0 < names.len());
+        let mut aig = Aig::new(rt.alloc());
+        let edge = both(&mut aig, &names, first, second)?;
+        let name = OutName {
+            family: None,
+            cut: 0,
+        };
+        let layout = of_one(rt.alloc(), &aig, &names, name, edge)?;
+        let mut out = Vec::new(rt.alloc());
+        layout.write_aag(&mut out)?;
+        assert_eq!(rt; layout.size_of(Form::Aag), 41);
+        assert_eq!(rt;
+            out.as_slice(),
+            b"aag 3 2 0 1 1\n2\n4\n6\n6 4 2\ni0 1\ni1 2\no0 0\n".as_slice()
+        );
+        Ok(())
+    }
+
+    #[test]
+    fn inputs_rise_and_gates_keep_their_order(rt: HostRuntime) -> Result<(), Fail> {
+        let mut names = Names::new(rt.alloc());
+        let nine = names.dense(9)?;
+        let two = names.dense(2)?;
+        let five = names.dense(5)?;
+        assert!(rt; nine.0 < names.len());
+        assert!(rt; two.0 < names.len());
+        let mut aig = Aig::new(rt.alloc());
+        let _unused = aig.input(five)?;
+        let edge = Aig::not(both(&mut aig, &names, nine, two)?);
+        let name = OutName {
+            family: Some(Family::Pudlak),
+            cut: 1,
+        };
+        let layout = of_one(rt.alloc(), &aig, &names, name, edge)?;
+        assert_eq!(rt; layout.inputs(), [2, 9].as_slice());
+        assert_eq!(rt; layout.gates(), [(4, 2)].as_slice());
+        assert_eq!(rt; layout.outputs(), 1);
+        assert_eq!(rt; layout.output(0), (name, 7));
+        Ok(())
+    }
+}

@@ -1,4 +1,3 @@
-pub mod BranchLemmas
 pub mod ValueLemmas
 pub mod NamingLemmas
 pub mod BelowLemmas

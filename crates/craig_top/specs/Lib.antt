@@ -1,4 +1,3 @@
-pub mod Branches
 pub mod Emptied
 pub mod Ending
 pub mod GivenState

@@ -1,5 +1,5 @@
 -- Clauses under a list of truth values, the value of variable `i` at place `i`.
-use Rattle.std.specs.Prelude.{ℕ, Bool, false, not, List, IsTrue, length, nat_lt, ◌&&◌, slice_index_or, if◌then◌else◌}
+use Rattle.std.specs.Prelude.{ℕ, Bool, false, not, List, IsTrue, nat_lt, slice_index_or, if◌then◌else◌}
 use Rattle.std.specs.List.{list_any, list_all}
 use Rattle.craig_spec.specs.Literal.{Literal, Clause}
 
@@ -10,14 +10,6 @@ value_at vs l = if l.negated then not (slice_index_or vs l.var false) else slice
 -- whether all clauses are true
 abbrev pub all_hold : List Bool → List Clause → Bool
 all_hold vs cs = list_all (λ c. list_any (value_at vs) c) cs
-
--- whether the literal's variable has a value that makes it false
-abbrev pub is_false_under : List Bool → Literal → Bool
-is_false_under vs l = nat_lt l.var (length vs) && not (value_at vs l)
-
--- whether some clause is false, whatever values more variables get
-abbrev pub refutes : List Bool → List Clause → Bool
-refutes vs cs = list_any (λ c. list_all (is_false_under vs) c) cs
 
 -- every variable of the clause is below n
 abbrev pub IsOver : ℕ → Clause → Type 0

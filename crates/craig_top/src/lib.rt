@@ -3,7 +3,7 @@
 //! `craig_top` reads the words and calls `run_script`, which takes bytes from a source, cuts them into lines, and
 //! puts the reply of a `Session` to each line to a sink. The contract of `craig_top` is the transcript theorem: what
 //! was put is made of allowed replies, one for each line, and each way in which a run can end says which lines these
-//! are. A `solve` is answered by plain splitting, which is private to this crate.
+//! are. A `solve` is answered by the incremental solver of `craig_solver`.
 #![tactic(auto)]
 
 mod clause;
@@ -12,7 +12,6 @@ mod reply;
 mod run;
 mod session;
 mod settings;
-mod splitting;
 mod status;
 mod top_call;
 mod verdict;

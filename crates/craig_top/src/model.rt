@@ -6,7 +6,7 @@ ghost use Rattle.craig_base.specs.Names.{AreNames};
 ghost use Rattle.craig_top.specs.Naming.{model_below};
 ghost use Rattle.craig_top.specs.Values.{AreOver, IsOver};
 
-use craig_base::{Lit, Lits, Names, Part, Var};
+use craig_base::{Lit, Lits, Names, Part, Values, Var};
 use std::alloc::{AllocError, Global};
 
 /// Which of the dense variables 0 to `count - 1` occur in a clause.
@@ -41,7 +41,7 @@ pub fn model_literals(
     alloc: Global,
     names: &Names,
     named: &[bool],
-    values: &[bool],
+    values: &Values,
 ) -> Result<Vec<Lit>, AllocError>
     requires named { length named.now ≡ length names.now }
     requires values { length values.now ≡ length names.now }
@@ -49,10 +49,10 @@ pub fn model_literals(
 {
     let mut literals = Vec::new(alloc);
     for place in 0..names.len() {
-        let index = place as usize;
-        if named[index] {
-            let name = Var(names.name(Var(place)));
-            literals.push(Lit::new(name, !values[index]))?;
+        let var = Var(place);
+        if named[place as usize] {
+            let name = Var(names.name(var));
+            literals.push(Lit::new(name, !values.get(var)))?;
         }
     }
     Ok(literals)

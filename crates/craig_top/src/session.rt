@@ -9,8 +9,10 @@ use crate::clause::dense_clause;
 use crate::reply::{append_ok, append_refusal};
 use crate::settings::Settings;
 use crate::verdict::append_verdict;
-use craig_base::{Lits, Names, Part};
+use craig_base::{Names, Part};
+use craig_proof::ChainStore;
 use craig_script::{Command, Line, LineFault, admit, parse};
+use craig_solver::Solver;
 use std::alloc::{AllocError, Global};
 use std::marker::Model;
 
@@ -24,24 +26,26 @@ pub struct Session {
     alloc: Global,
     parts: u16,
     names: Names,
-    accepted: Vec<(Part, Lits)>,
+    // over the dense variables of the names
+    solver: Solver<ChainStore>,
 }
 
 impl Model for Session {
+    ghost use Rattle.std.specs.Prelude.{◌≡◌, ◌≤◌, false, length};
     ghost use Rattle.craig_top.specs.GivenState.{State};
     ghost use Rattle.craig_top.specs.Stored.{stored_state, IsStored};
 
     ghost Value = { State };
 
-    ghost view = { λ s. stored_state s.parts s.names s.accepted.items };
+    ghost view = { λ s. stored_state s.parts s.names s.solver.accepted };
 
-    ghost invariant = { λ s. IsStored s.names s.accepted.items };
+    ghost invariant = { λ s. IsStored s.names s.solver.accepted × (s.solver.dead ≡ false → s.solver.vars ≤ length s.names) };
 }
 
 impl Session {
     ghost use Rattle.craig_top.specs.StartingSettings.{starting_settings};
-    ghost use Rattle.craig_top.specs.GivenState.{start, reading, next, obeyed};
-    ghost use Rattle.craig_top.specs.Reply.{Reply, RepliesTo};
+    ghost use Rattle.craig_top.specs.GivenState.{start, reading, next, obeyed, clauses_of};
+    ghost use Rattle.craig_top.specs.Reply.{Reply, RepliesTo, IsVerdict};
     ghost use Rattle.craig_top.specs.Unassuming.{IsUnassuming};
 
     /// The session before the first line. It takes no memory.
@@ -54,7 +58,7 @@ impl Session {
             alloc,
             parts: PARTS,
             names: Names::new(alloc),
-            accepted: Vec::new(alloc),
+            solver: Solver::new(alloc, ChainStore::new(alloc)),
         }
     }
 
@@ -81,7 +85,7 @@ impl Session {
         ensures unassuming { IfOk result IsUnassuming }
     {
         let command = parse(self.alloc, line)?;
-        match admit(self.parts, !self.accepted.is_empty(), &command) {
+        match admit(self.parts, !self.solver.accepted().is_empty(), &command) {
             Ok(()) => Ok(command),
             Err(refusal) => Err(LineFault::Refused(refusal)),
         }
@@ -100,7 +104,7 @@ impl Session {
                 self.accept(part, lits.as_slice())?;
                 append_ok(out)
             }
-            Command::Solve(_) => append_verdict(self.alloc, &self.names, &self.accepted, out),
+            Command::Solve(_) => self.solve(out),
         }
     }
 
@@ -111,7 +115,23 @@ impl Session {
         ensures { OnOk result (self.new ≡ obeyed self.old (Command.Add part literals.now)) }
     {
         let clause = dense_clause(self.alloc, &mut self.names, literals)?;
-        self.accepted.push((Part(part as u16), clause))?;
-        Ok(())
+        self.solver.reach(self.names.len())?;
+        self.solver.add(Part(part as u16), clause.as_slice())
+    }
+
+    /// Solves the accepted clauses, and appends the verdict.
+    fn solve(&mut self, out: &mut Vec<u8>) -> Result<(), AllocError>
+        ensures verdict { OnOk result ((text : List ℕ) × IsVerdict (clauses_of self.old) text × (out.new.items ≡ out.old.items ++ text)) }
+        ensures state { self.new ≡ self.old }
+    {
+        self.solver.reach(self.names.len())?;
+        let answer = self.solver.solve(&[], None)?;
+        append_verdict(
+            self.alloc,
+            &self.names,
+            self.solver.accepted(),
+            &answer,
+            out,
+        )
     }
 }

@@ -1,0 +1,189 @@
+-- The walk back along the trail: a place is taken out and resolved on.
+use Rattle.std.proofs.Common.{◌≡◌, ◌≢◌, inl, inr, ℕ, ◌+◌, ◌<◌, ◌≤◌, Bool, true, false, cond, eqb, eq-eqb, List, [], ◌∷◌, ◌++◌, length, get_or, take, All, Contains, Option, Some, None, IsSome, refl, sym, ap, subst, ◌∙◌, arith}
+use Rattle.std.specs.Option.{option_map}
+use Rattle.std.specs.List.Sorted.{IsPermutation}
+use Rattle.std.proofs.lemmas.List.Elements.{All-head, All-tail, All-contains, Contains-append_cases, Contains-get_or}
+use Rattle.std.proofs.lemmas.List.{get_or_default}
+use Rattle.std.proofs.lemmas.List.Sorted.{All-permutation, Contains-permutation, IsPermutation-sym}
+use Rattle.craig_spec.specs.Literal.{Literal, Clause}
+use Rattle.craig_spec.specs.Chain.{ChainStep, SameLiterals}
+use Rattle.craig_base.specs.Counting.{count_of, NoneMoreThan}
+use Rattle.craig_base.specs.declared.clause_id.ClauseId.{ClauseId}
+use Rattle.craig_base.specs.Arena.{literals_at}
+use Rattle.craig_proof.specs.declared.step.Step.{Step}
+use Rattle.craig_proof.specs.Tracer.{chain_of}
+use Rattle.craig_watch.specs.Trail.{Trail, entry_of, IsFalse, IsAssigned, level_at, AreDistinct}
+use Rattle.craig_watch.specs.Held.{HeldView, held_clause, Forces, IsConsistent}
+use Rattle.craig_analyze.specs.Resolvent.{State, any_entry, at_place, negated_at, resolvent_of, IsEndLevel, IsUnresolved, MayBeMet, HasMet, Meets, IsTaken, IsResolvable, HasResolved}
+use Rattle.craig_analyze.proofs.PlaceLemmas.{false-within, within-false, false-later, false-assigned, place-assigned, place-false, same_negated, entry_of-place, level_at-place}
+use Rattle.craig_analyze.proofs.LevelLemmas.{reason_of-cases}
+use Rattle.craig_analyze.proofs.CountLemmas.{count_of-cons, count_of-permutation, Contains-counted}
+use Rattle.craig_analyze.proofs.ChainLemmas.{Contains-cases, Contains-first, Contains-later, literal-decides, resolves-with_reason, IsChain-push}
+use Rattle.craig_analyze.proofs.ResolventLemmas.{has-pending, has-kept, has-cases, resolvent-false}
+use Rattle.craig_analyze.proofs.HeldClauseLemmas.{held-live}
+
+-- what is so when the greatest pending place was taken out
+pub record Taken (h : HeldView) (place : ℕ) (old new : State) : Type 0 where
+  pub there : Contains old.pending place
+  pub within : place < length h.trail
+  pub end : IsEndLevel h (at_place h.trail place).level
+  pub marked : Contains new.marked (at_place h.trail place).literal.var
+  pub unresolved : IsUnresolved h place new
+  pub same : SameLiterals (resolvent_of h.trail old) (negated_at h.trail place ∷ resolvent_of h.trail new)
+
+once-twice : (n : ℕ) (xs ys : List ℕ) → NoneMoreThan 1 xs → IsPermutation xs (n ∷ ys) → ¬ Contains ys n
+once-twice n xs ys once moved has =
+    let same : count_of n (n ∷ ys) ≡ count_of n xs = count_of-permutation n xs (n ∷ ys) moved in
+    let sum : count_of n (n ∷ ys) ≡ cond (eqb n n) 1 0 + count_of n ys = count_of-cons n n ys in
+    let one : cond {A = ℕ} (eqb n n) 1 0 ≡ 1 = ap (λ (b : Bool). cond {A = ℕ} b 1 0) (eq-eqb n n refl) in
+    let more : 1 ≤ count_of n ys = Contains-counted n ys has in
+    let le : count_of n xs ≤ 1 = once n in
+    omega arith
+
+once-rest : (n : ℕ) (xs ys : List ℕ) → NoneMoreThan 1 xs → IsPermutation xs (n ∷ ys) → NoneMoreThan 1 ys
+once-rest n xs ys once moved x =
+    let same : count_of x (n ∷ ys) ≡ count_of x xs = count_of-permutation x xs (n ∷ ys) moved in
+    let sum : count_of x (n ∷ ys) ≡ cond (eqb x n) 1 0 + count_of x ys = count_of-cons x n ys in
+    let le : count_of x xs ≤ 1 = once x in
+    omega arith
+
+below-greatest : (n : ℕ) (xs ys : List ℕ) → NoneMoreThan 1 xs → IsPermutation xs (n ∷ ys) → All (λ p. p ≤ n) ys → All (λ p. p < n) ys
+below-greatest n xs ys once moved greatest k d w =
+    let le : get_or ys k d ≤ n = greatest k d w in
+    let differ : get_or ys k d ≢ n = λ e. once-twice n xs ys once moved (k, w, get_or_default ys k n d w ∙ e) in
+    omega arith
+
+same-taken : (t : Trail) (place : ℕ) (old new : State) → IsPermutation old.pending (place ∷ new.pending) → new.kept ≡ old.kept → SameLiterals (resolvent_of t old) (negated_at t place ∷ resolvent_of t new)
+same-taken t place old new moved kept l = (
+  λ here. elim (has-cases t old l here) [
+    | inl there ↦ elim (Contains-cases place new.pending there.0 (Contains-permutation old.pending (place ∷ new.pending) there.0 moved there.1)) [
+      | inl e ↦ subst (Contains (negated_at t place ∷ resolvent_of t new)) (ap (negated_at t) e ∙ there.2) (Contains-first (negated_at t place) (resolvent_of t new))
+      | inr rest ↦ Contains-later (negated_at t place) (resolvent_of t new) l (subst (Contains (resolvent_of t new)) there.2 (has-pending t new there.0 rest))
+    ]
+    | inr in_kept ↦ Contains-later (negated_at t place) (resolvent_of t new) l (has-kept t new l (subst (λ (c : Clause). Contains c l) (sym kept) in_kept))
+  ],
+  λ here. elim (Contains-cases (negated_at t place) (resolvent_of t new) l here) [
+    | inl e ↦ subst (Contains (resolvent_of t old)) e (has-pending t old place (Contains-permutation (place ∷ new.pending) old.pending place (IsPermutation-sym old.pending (place ∷ new.pending) moved) (Contains-first place new.pending)))
+    | inr rest ↦ elim (has-cases t new l rest) [
+      | inl there ↦ subst (Contains (resolvent_of t old)) there.2 (has-pending t old there.0 (Contains-permutation (place ∷ new.pending) old.pending there.0 (IsPermutation-sym old.pending (place ∷ new.pending) moved) (Contains-later place new.pending there.0 there.1)))
+      | inr in_kept ↦ has-kept t old l (subst (λ (c : Clause). Contains c l) kept in_kept)
+    ]
+  ],
+)
+
+-- the variable at a place isn't assigned before it
+lower-place : (t : Trail) (place b : ℕ) (l : Literal) → AreDistinct t → place < b → place < length t → IsFalse (take place t) l → IsFalse (take b t) l × (negated_at t place ≢ l)
+lower-place t place b l apart low within falsified =
+    let at = false-within place t l falsified in
+    let k : ℕ = at.0 in
+    let before : k < place = at.1 in
+    let inside : k < length t = at.2 in
+    (subst (IsFalse (take b t)) at.3 (within-false b t k apart (omega arith) inside), λ e. (let same : place ≡ k = same_negated t place k apart within inside (e ∙ sym at.3) in omega arith))
+
+Taken-same : (h : HeldView) (b place : ℕ) (s : State) (pending : List ℕ) → IsConsistent h → IsUnresolved h b s → IsPermutation s.pending (place ∷ pending) → All (λ p. p ≤ place) pending → Taken h place s (record { marked = s.marked; pending = pending; kept = s.kept })
+Taken-same h b place s pending ok u moved greatest =
+    let t : Trail = h.trail in
+    let new : State = record { marked = s.marked; pending = pending; kept = s.kept } in
+    let low : place < b = All-head (λ p. p < b) place pending (All-permutation (λ p. p < b) s.pending (place ∷ pending) moved u.below) in
+    let all_ends = All-permutation (λ p. IsEndLevel h (at_place t p).level) s.pending (place ∷ pending) moved u.ends in
+    let all_marked = All-permutation (λ p. Contains s.marked (at_place t p).literal.var) s.pending (place ∷ pending) moved u.pending_marked in
+    let within : place < length t = let w = u.within in omega arith in
+    let same : SameLiterals (resolvent_of t s) (negated_at t place ∷ resolvent_of t new) = same-taken t place s new moved refl in
+    record {
+      there = Contains-permutation (place ∷ pending) s.pending place (IsPermutation-sym s.pending (place ∷ pending) moved) (Contains-first place pending);
+      within = within;
+      end = All-head (λ p. IsEndLevel h (at_place t p).level) place pending all_ends;
+      marked = All-head (λ p. Contains s.marked (at_place t p).literal.var) place pending all_marked;
+      unresolved = record {
+        within = omega arith;
+        below = below-greatest place s.pending pending u.once moved greatest;
+        once = once-rest place s.pending pending u.once moved;
+        ends = All-tail (λ p. IsEndLevel h (at_place t p).level) place pending all_ends;
+        pending_marked = All-tail (λ p. Contains s.marked (at_place t p).literal.var) place pending all_marked;
+        kept_false = u.kept_false;
+        kept_inner = u.kept_inner;
+        kept_apart = u.kept_apart;
+        kept_marked = u.kept_marked;
+        met = λ l falsified has.
+            let lower = lower-place t place b l ok.distinct low within falsified in
+            elim (Contains-cases (negated_at t place) (resolvent_of t new) l ((same l).0 (u.met l lower.0 has))) [ inl e ↦ absurd (lower.1 e) | inr rest ↦ rest ];
+      };
+      same = same;
+    }
+
+pub IsTaken-taken : (h : HeldView) (b place : ℕ) (old new : State) → IsConsistent h → IsUnresolved h b old → IsTaken place old new → Taken h place old new
+IsTaken-taken h b place old new ok u taken =
+    let same : record { marked = old.marked; pending = new.pending; kept = old.kept } ≡ new = λ i. record { marked = sym taken.marked i; pending = new.pending; kept = sym taken.kept i } in
+    subst (Taken h place old) same (Taken-same h b place old new.pending ok u taken.rest taken.greatest)
+
+-- the pivot is not in the rest of the resolvent
+pivot-gone : (h : HeldView) (place : ℕ) (s : State) → IsConsistent h → place < length h.trail → IsEndLevel h (at_place h.trail place).level → IsUnresolved h place s → ¬ Contains (resolvent_of h.trail s) (negated_at h.trail place)
+pivot-gone h place s ok within end u has =
+    elim (has-cases h.trail s (negated_at h.trail place) has) [
+      | inl there ↦
+          let low : there.0 < place = All-contains (λ p. p < place) s.pending there.0 u.below there.1 in
+          let same : there.0 ≡ place = same_negated h.trail there.0 place ok.distinct (omega arith) within there.2 in
+          omega arith
+      | inr kept ↦
+          let inner = All-contains (λ l. (0 < level_at h.trail l) × (level_at h.trail l < h.level)) s.kept (negated_at h.trail place) u.kept_inner kept in
+          let above : 0 < level_at h.trail (negated_at h.trail place) = inner.0 in
+          let below : level_at h.trail (negated_at h.trail place) < h.level = inner.1 in
+          let level : level_at h.trail (negated_at h.trail place) ≡ (at_place h.trail place).level = level_at-place h.trail place ok.distinct within in
+          elim end [ inl z ↦ (let zero_level : (at_place h.trail place).level ≡ 0 = z in omega arith) | inr p ↦ (let present : (at_place h.trail place).level ≡ h.level = p in omega arith) ]
+    ]
+
+-- the literals of a reason may be met
+pub reason-may_be_met : (h : HeldView) (place : ℕ) (s : State) (reason : Clause) → IsResolvable h place s → Forces (take place h.trail) reason (at_place h.trail place).literal → All (MayBeMet h.trail place s) reason
+reason-may_be_met h place s reason r forces k d w =
+    let l : Literal = get_or reason k d in
+    elim (literal-decides l (at_place h.trail place).literal) [
+      | inl same ↦ inr (subst (λ (m : Literal). Contains s.marked m.var) (sym same) r.marked)
+      | inr differ ↦ inl (forces.others l (Contains-get_or reason k d w) differ)
+    ]
+
+pub reason-assigned : (h : HeldView) (place : ℕ) (reason : Clause) → IsConsistent h → place < length h.trail → Forces (take place h.trail) reason (at_place h.trail place).literal → All (λ l. IsAssigned h.trail l.var) reason
+reason-assigned h place reason ok within forces k d w =
+    let l : Literal = get_or reason k d in
+    elim (literal-decides l (at_place h.trail place).literal) [
+      | inl same ↦ subst (λ (m : Literal). IsAssigned h.trail m.var) (sym same) (place-assigned h.trail place ok.distinct within)
+      | inr differ ↦ false-assigned h.trail l (false-later place h.trail l ok.distinct (forces.others l (Contains-get_or reason k d w) differ))
+    ]
+
+-- the reason that is told of the variable at a place
+pub reason-told : (h : HeldView) (place v : ℕ) (r : Option ClauseId) → IsConsistent h → place < length h.trail → v ≡ (at_place h.trail place).literal.var → option_map (λ e. e.reason) (entry_of h.trail v) ≡ Some r → r ≡ (at_place h.trail place).reason
+reason-told h place v r ok within is told =
+    reason_of-cases (entry_of h.trail v) r (λ e. e.reason) (at_place h.trail place) (ap (entry_of h.trail) is ∙ entry_of-place h.trail place ok.distinct within) told
+
+abbrev pub Reason : HeldView → ℕ → ℕ → Type 0
+Reason h place id = (c : Clause) × (held_clause h.arena id ≡ Some c) × Forces (take place h.trail) c (at_place h.trail place).literal
+
+pub reason-held : (h : HeldView) (place : ℕ) (id : ClauseId) → IsConsistent h → place < length h.trail → (at_place h.trail place).reason ≡ Some id → Reason h place id.0
+reason-held h place id ok within is = ok.justified place any_entry within id is
+
+-- the resolvent with the reason
+pub HasResolved-met : (h : HeldView) (place : ℕ) (id : ℕ) (before : List ChainStep) (s new : State) → IsConsistent h → IsResolvable h place s → Reason h place id → Meets h (literals_at h.arena id) s new → HasResolved h place before (before ++ record { pivot = negated_at h.trail place; antecedent = id } ∷ []) s new
+HasResolved-met h place id before s new ok r (reason, held, forces) meets =
+    let t : Trail = h.trail in
+    let literals : literals_at h.arena id ≡ reason = (held-live h.arena id reason held).1 in
+    let of_reason : Meets h reason s new = subst (λ (d : Clause). Meets h d s new) literals meets in
+    let met : HasMet h place reason s new = of_reason place r.unresolved (reason-may_be_met h place s reason r forces) in
+    record {
+      unresolved = met.unresolved;
+      longer = λ l here. (met.literals l).1 (inl here);
+      chain = λ start extra apart chain.
+          let falsified : (l : Literal) → Contains (extra ++ negated_at t place ∷ resolvent_of t s) l → IsFalse t l = λ l here. elim (Contains-append_cases extra (negated_at t place ∷ resolvent_of t s) l here) [
+            | inl in_extra ↦ (All-contains (λ m. IsFalse t m × (m ≢ negated_at t place)) extra l apart in_extra).0
+            | inr behind ↦ elim (Contains-cases (negated_at t place) (resolvent_of t s) l behind) [ inl e ↦ subst (IsFalse t) e (place-false t place ok.distinct r.within) | inr rest ↦ resolvent-false h place s l ok r.unresolved rest ]
+          ] in
+          IsChain-push (held_clause h.arena) start before (record { pivot = negated_at t place; antecedent = id }) (extra ++ negated_at t place ∷ resolvent_of t s) reason (extra ++ resolvent_of t new) chain held
+          (resolves-with_reason t place extra (resolvent_of t s) (resolvent_of t new) reason ok.distinct r.within forces falsified (λ here. (All-contains (λ m. IsFalse t m × (m ≢ negated_at t place)) extra (negated_at t place) apart here).1 refl) (pivot-gone h place s ok r.within r.end r.unresolved) met.literals);
+    }
+
+pub no-reason : {A : Type 0} (o : Option A) → o ≡ None → ¬ IsSome o
+no-reason None is some = let no : false ≡ true = some in cc
+no-reason (Some x) is some = let no : Some x ≡ None = is in cc
+
+-- one step more
+pub chain_of-push : (steps : List Step) (s : Step) → chain_of (steps ++ s ∷ []) ≡ chain_of steps ++ record { pivot = s.pivot; antecedent = s.antecedent.0 } ∷ []
+chain_of-push [] s = refl
+chain_of-push (r ∷ steps) s = ap (λ (rest : List ChainStep). record { pivot = r.pivot; antecedent = r.antecedent.0 } ∷ rest) (chain_of-push steps s)

@@ -1,0 +1,62 @@
+use Rattle.std.proofs.Common.{◌≡◌, ◌∷◌, ap, sym, subst, refl, ◌∙◌, length, map, All, Contains}
+use Rattle.craig_spec.specs.Literal.{Literal, Clause}
+use Rattle.craig_proof.specs.Tracer.{chain_of}
+use Rattle.craig_watch.specs.Trail.{IsAssigned, level_at}
+use Rattle.craig_analyze.specs.Learnt.{IsGreatestOf, IsNumberOfDifferent}
+use Rattle.craig_analyze.specs.Resolvent.{state_of}
+use Rattle.craig_analyze.proofs.LearntLemmas.{same_found, begun-present, learnt-derived, learnt-asserting, learnt-assigned, kept-assigned, kept-lower, learnt-false}
+use Rattle.craig_analyze.proofs.analysis.Analysis.learn_with.Goals as goal
+
+pub find_asserting-requires : goal.find_asserting-requires
+find_asserting-requires c =
+    let h = c.args.held.now in
+    let ok = c.begin.ensures.consistent in
+    let begun = c.in_ok-begin.ensures.begun in
+    let two = c.conflicts_above_the_root.ensures.two h c.args.conflict.0 c.requires.conflict.0 ok c.requires.level c.requires.conflict.1 c.requires.conflict.2 in
+    let same : c.requires.conflict.0 ≡ begun.conflict = same_found _ _ (sym c.requires.conflict.1 ∙ begun.held) in
+    record {
+      consistent = ok;
+      level = c.requires.level;
+      unresolved = (length h.trail, begun.unresolved);
+      present = begun-present h c.args.conflict.0 (state_of c.begin.new.self) two.0 ok begun (subst (λ (d : Clause). Contains d two.0) same two.2) two.5;
+    }
+
+pub resolve_root-requires : goal.resolve_root-requires
+resolve_root-requires c =
+    let found = c.in_ok-first.ensures in
+    record {
+      consistent = c.begin.ensures.consistent;
+      unresolved = (found.place, found.unresolved);
+      root = found.root;
+    }
+
+pub greatest_level-back-requires : goal.greatest_level-back-requires
+greatest_level-back-requires c =
+    let h = c.args.held.now in
+    let ended = c.in_ok-resolve_root.ensures in
+    subst (All (λ (l : Literal). IsAssigned h.trail l.var)) (sym c.as_slice-2.ensures.value) (kept-assigned h ended.bound (state_of c.resolve_root.new.self) ended.unresolved)
+
+pub count_levels-requires : goal.count_levels-requires
+count_levels-requires c =
+    let h = c.args.held.now in
+    let lits = c.as_slice-3.ensures ∙ c.in_ok-lits.ensures ∙ ap (λ (kept : Clause). c.in_ok-first.first ∷ kept) c.as_slice.ensures.value in
+    record {
+      assigned = subst (All (λ (l : Literal). IsAssigned h.trail l.var)) (sym lits) (learnt-assigned h c.args.conflict.0 c.in_ok-first.first _ _ _ (state_of c.begin.new.self) (state_of c.find_asserting.new.self) (state_of c.resolve_root.new.self) c.begin.ensures.consistent c.requires.level c.in_ok-begin.ensures.begun c.in_ok-first.ensures c.in_ok-resolve_root.ensures);
+      consistent = c.begin.ensures.consistent;
+    }
+
+pub returns-clause-derived : goal.returns-clause-derived
+returns-clause-derived c =
+    let lits = c.in_ok-lits.ensures ∙ ap (λ (kept : Clause). c.in_ok-first.first ∷ kept) c.as_slice.ensures.value in
+    learnt-derived c.args.held.now c.args.conflict.0 c.in_ok-first.first _ _ _ (state_of c.begin.new.self) (state_of c.find_asserting.new.self) (state_of c.resolve_root.new.self) c.begin.ensures.consistent c.requires.level c.in_ok-begin.ensures.begun c.in_ok-first.ensures c.in_ok-resolve_root.ensures _ lits refl refl (ap chain_of c.new-rest.ensures)
+
+pub returns-clause-asserting : goal.returns-clause-asserting
+returns-clause-asserting c =
+    let h = c.args.held.now in
+    let ok = c.begin.ensures.consistent in
+    let lits = c.in_ok-lits.ensures ∙ ap (λ (kept : Clause). c.in_ok-first.first ∷ kept) c.as_slice.ensures.value in
+    let back = subst (λ (kept : Clause). IsGreatestOf (map (level_at h.trail) kept) c.greatest_level-back.result) c.as_slice-2.ensures.value c.greatest_level-back.ensures in
+    let glue = subst (λ (d : Clause). IsNumberOfDifferent (map (level_at h.trail) d) c.in_ok-glue.glue) c.as_slice-3.ensures c.in_ok-glue.ensures in
+    let falsified = learnt-false h c.args.conflict.0 c.in_ok-first.first _ _ _ (state_of c.begin.new.self) (state_of c.find_asserting.new.self) (state_of c.resolve_root.new.self) ok c.requires.level c.in_ok-begin.ensures.begun c.in_ok-first.ensures c.in_ok-resolve_root.ensures in
+    let lower = kept-lower h c.args.conflict.0 c.in_ok-first.first _ _ _ (state_of c.begin.new.self) (state_of c.find_asserting.new.self) (state_of c.resolve_root.new.self) ok c.requires.level c.in_ok-begin.ensures.begun c.in_ok-first.ensures c.in_ok-resolve_root.ensures in
+    learnt-asserting h c.args.conflict.0 c.in_ok-first.first _ _ _ (state_of c.begin.new.self) (state_of c.find_asserting.new.self) (state_of c.resolve_root.new.self) ok c.requires.level c.in_ok-begin.ensures.begun c.in_ok-first.ensures c.in_ok-resolve_root.ensures _ lits back glue (c.conflicts_above_the_root.ensures.new h c.in_ok-first.first _ ok c.requires.level falsified lower)

@@ -1,0 +1,32 @@
+//! The resolvent in the course of conflict analysis.
+ghost use Rattle.std.specs.BinaryHeap.{IsHeap, heap_items};
+ghost use Rattle.std.specs.Ordering.{nat_cmp};
+ghost use Rattle.std.proofs.Props.{props};
+
+use crate::marks::Marks;
+use craig_base::Lit;
+use std::alloc::Global;
+use std::collections::BinaryHeap;
+
+// A clause of false literals: the negations of the literals at the pending places of the trail, and the literals
+// that are kept. Each variable that came in once is marked, so a literal comes in once.
+#[derive(Drop)]
+pub struct Resolvent {
+    pub variables: Marks,
+    // the places of the literals of level 0 and of the present level, which are to be resolved on
+    pub pending: BinaryHeap<usize>,
+    // the literals of the levels between
+    pub kept: Vec<Lit>,
+    ghost ordered: { IsHeap nat_cmp (heap_items pending) } by { Prim.hlevel props },
+}
+
+impl Resolvent {
+    // The clause without literals, which takes no memory.
+    pub(crate) fn new(alloc: Global) -> Resolvent {
+        Resolvent {
+            variables: Marks::new(alloc),
+            pending: BinaryHeap::new(alloc),
+            kept: Vec::new(alloc),
+        }
+    }
+}

@@ -1,0 +1,12 @@
+pub mod ClauseLemmas
+pub mod ArenaLemmas
+pub mod LeavesLemmas
+pub mod JournalLemmas
+pub mod TellsLemmas
+pub mod CoversLemmas
+pub mod PlaceLemmas
+pub mod ReadyLemmas
+pub mod LearntLemmas
+pub mod SearchingLemmas
+pub mod MeasureLemmas
+pub mod VerdictLemmas

@@ -1,0 +1,50 @@
+use Rattle.std.proofs.Common.{◌≡◌, ◌+◌, ℕ, List, All, refl, ap, sym, subst}
+use Rattle.std.specs.Option.{ForSome}
+use Rattle.craig_spec.specs.Literal.{Clause}
+use Rattle.craig_spec.specs.Chain.{ChainOk, Derived, IsUnforgotten, antecedents}
+use Rattle.craig_proof.specs.Tracer.{chain_of}
+use Rattle.craig_proof.specs.declared.step.Step.{Step}
+use Rattle.craig_watch.specs.Held.{HeldView, MayBeHeld, held_clause}
+use Rattle.craig_search.specs.Searching.{IsNew}
+use Rattle.craig_search.proofs.LeavesLemmas.{Leaves-learnt}
+use Rattle.craig_search.proofs.JournalLemmas.{IsJournal-learnt}
+use Rattle.craig_search.proofs.TellsLemmas.{TellsLearnt-told, derived-of_search}
+use Rattle.craig_search.proofs.CoversLemmas.{covers-told, old_or_added}
+use Rattle.craig_search.proofs.learning.hold_learnt.Goals as goal
+
+pub hold-requires-clause-fits : goal.hold-requires-clause-fits
+hold-requires-clause-fits g c = subst (MayBeHeld c.args.held.now) (sym c.as_slice-lits.ensures) c.requires.fits
+
+pub derived-requires-clause-unforgotten : goal.derived-requires-clause-unforgotten
+derived-requires-clause-unforgotten g c =
+    subst (λ (xs : List Step). ForSome (g.T.Tracer.told c.args.tracer.now) (λ t. All (IsUnforgotten t.steps) (antecedents (Derived c.args.learnt.now.first.0 (chain_of xs))))) (sym c.as_slice-rest.ensures) (c.covered_chain_is_told.ensures.antecedents _ _ _ _ _ _ c.requires.covers c.requires.derived.chain)
+
+pub derived-requires-clause-chain : goal.derived-requires-clause-chain
+derived-requires-clause-chain g c =
+    rw (c.as_slice-lits.ensures, c.as_slice-rest.ensures) (c.covered_chain_is_told.ensures.chain _ _ _ _ _ _ c.requires.covers c.requires.derived.chain)
+
+pub returns-clause-searching : goal.returns-clause-searching
+returns-clause-searching g c =
+    let old = c.args.held.now in
+    let held = c.in_ok-id.ensures.held in
+    let given : c.hold.new.self.arena.given ≡ old.arena.given + 1 = ap (λ (h : HeldView). h.arena.given) held in
+    let chain = subst (λ (d : Clause). ChainOk (held_clause old.arena) d c.args.learnt.now.first.0 (chain_of c.args.learnt.now.rest)) (sym c.as_slice-lits.ensures) c.requires.derived.chain in
+    let new = subst (IsNew old.arena) (sym c.as_slice-lits.ensures) c.requires.new in
+    λ start search. record {
+      leaves = Leaves-learnt c.chain_follows.ensures.follows c.chain_variables.ensures.variables start old c.hold.new.self c.in_ok-id.id.0 _ _ _ search.leaves (ap (λ (h : HeldView). h.vars) held) given c.in_ok-id.ensures.next c.in_ok-id.ensures.fresh c.in_ok-id.ensures.only refl chain;
+      journal = IsJournal-learnt start.arena.given old.arena c.hold.new.self.arena c.in_ok-id.id.0 _ search.journal given c.in_ok-id.ensures.next c.in_ok-id.ensures.fresh c.in_ok-id.ensures.only c.in_ok-id.ensures.consistent.arena new;
+    }
+
+pub returns-clause-learnt : goal.returns-clause-learnt
+returns-clause-learnt g c =
+    let old = c.args.held.now in
+    let chain = subst (λ (d : Clause). ChainOk (held_clause old.arena) d c.args.learnt.now.first.0 (chain_of c.args.learnt.now.rest)) (sym c.as_slice-lits.ensures) c.requires.derived.chain in
+    let chain_too = subst (λ (xs : List Step). ChainOk (held_clause old.arena) c.as_slice-lits.result.now c.args.learnt.now.first.0 (chain_of xs)) (sym c.as_slice-rest.ensures) chain in
+    λ start before search learnt. TellsLearnt-told start before _ _ _ learnt c.in_ok-derived.ensures.told (derived-of_search c.chain_variables.ensures.given (λ (id : ℕ). ⊥) start old _ _ _ _ search.leaves c.in_ok-id.ensures.next chain_too)
+
+pub returns-clause-covers : goal.returns-clause-covers
+returns-clause-covers g c =
+    let old = c.args.held.now in
+    let chain = subst (λ (d : Clause). ChainOk (held_clause old.arena) d c.args.learnt.now.first.0 (chain_of c.args.learnt.now.rest)) (sym c.as_slice-lits.ensures) c.requires.derived.chain in
+    let chain_too = subst (λ (xs : List Step). ChainOk (held_clause old.arena) c.as_slice-lits.result.now c.args.learnt.now.first.0 (chain_of xs)) (sym c.as_slice-rest.ensures) chain in
+    covers-told c.covering_is_kept.ensures.derived _ _ old.arena c.hold.new.self.arena _ _ _ _ c.requires.covers c.in_ok-derived.ensures.told c.in_ok-id.ensures.next (ap (λ (h : HeldView). h.arena.given) c.in_ok-id.ensures.held) chain_too (old_or_added old.arena c.hold.new.self.arena c.in_ok-id.id.0 _ c.in_ok-id.ensures.fresh c.in_ok-id.ensures.only)

@@ -1,0 +1,39 @@
+use Rattle.std.proofs.Common.{◌<◌, ℕ, All, length, ap, sym, subst, arith}
+use Rattle.craig_spec.specs.Literal.{Literal}
+use Rattle.craig_watch.specs.Held.{HeldView, MayBeHeld}
+use Rattle.craig_search.specs.Searching.{IsSearching}
+use Rattle.craig_search.proofs.LearntLemmas.{back-below, fits-back, known-falsified}
+use Rattle.craig_search.proofs.SearchingLemmas.{IsSearching-moved}
+use Rattle.craig_search.proofs.learning.learn.Goals as goal
+
+pub raise-requires : goal.raise-requires
+raise-requires g c =
+    let h = c.args.held.now in
+    let known = known-falsified c.entries_have_places.ensures.false_literal c.entries_have_places.ensures.place h c.in_ok-learnt.learnt.lits c.requires.consistent c.in_ok-learnt.ensures.asserting.falsified in
+    let by_order = subst (λ (n : ℕ). All (λ (l : Literal). l.var < n) c.in_ok-learnt.learnt.lits) (sym c.requires.ready.known) known in
+    subst (All (λ (l : Literal). l.var < length c.args.order.now.given_back)) (sym c.as_slice-lits.ensures) by_order
+
+pub go_back-requires-clause-below : goal.go_back-requires-clause-below
+go_back-requires-clause-below g c =
+    let low : c.in_ok-learnt.learnt.back < c.args.held.now.level = back-below c.args.held.now c.in_ok-learnt.learnt c.requires.level c.in_ok-learnt.ensures.asserting in
+    omega (arith, low)
+
+pub hold_learnt-requires-clause-known : goal.hold_learnt-requires-clause-known
+hold_learnt-requires-clause-known g c =
+    let h = c.args.held.now in
+    let known = known-falsified c.entries_have_places.ensures.false_literal c.entries_have_places.ensures.place h c.in_ok-learnt.learnt.lits c.requires.consistent c.in_ok-learnt.ensures.asserting.falsified in
+    subst (λ (n : ℕ). All (λ (l : Literal). l.var < n) c.in_ok-learnt.learnt.lits) (sym (ap (λ (n : HeldView). n.vars) c.go_back.ensures.back)) known
+
+pub hold_learnt-requires-clause-fits : goal.hold_learnt-requires-clause-fits
+hold_learnt-requires-clause-fits g c =
+    subst (λ (n : HeldView). MayBeHeld n c.in_ok-learnt.learnt.lits) (sym c.go_back.ensures.back) (fits-back c.asserting_clauses_may_be_held.ensures c.args.held.now c.in_ok-learnt.learnt c.requires.consistent c.requires.level c.in_ok-learnt.ensures.asserting)
+
+pub returns-clause-searching : goal.returns-clause-searching
+returns-clause-searching g c = λ start search.
+    let moved = subst (IsSearching start) (sym c.go_back.ensures.back) (IsSearching-moved start c.args.held.now _ _ search) in
+    c.in_ok-hold_learnt.ensures.searching start moved
+
+pub returns-clause-learnt : goal.returns-clause-learnt
+returns-clause-learnt g c = λ start before search learnt.
+    let moved = subst (IsSearching start) (sym c.go_back.ensures.back) (IsSearching-moved start c.args.held.now _ _ search) in
+    c.in_ok-hold_learnt.ensures.learnt start before moved learnt

@@ -1,0 +1,42 @@
+use Rattle.std.proofs.Common.{List, All, ap, sym, subst, ◌∙◌}
+use Rattle.std.specs.Option.{ForSome, option_map}
+use Rattle.craig_spec.specs.Literal.{Clause}
+use Rattle.craig_spec.specs.Chain.{ChainOk, Derived, IsUnforgotten, antecedents}
+use Rattle.craig_proof.specs.Tracer.{Appends, chain_of, derived_step}
+use Rattle.craig_proof.specs.declared.step.Step.{Step}
+use Rattle.craig_base.specs.Arena.{FlaggedClause}
+use Rattle.craig_watch.specs.Held.{HeldView, held_clause}
+use Rattle.craig_search.proofs.CoversLemmas.{covers-numbered}
+use Rattle.craig_search.proofs.refuting.refuted.Goals as goal
+
+pub derived-requires-clause-unforgotten : goal.derived-requires-clause-unforgotten
+derived-requires-clause-unforgotten g c =
+    subst (λ (xs : List Step). ForSome (g.T.Tracer.told c.args.tracer.now) (λ t. All (IsUnforgotten t.steps) (antecedents (Derived c.in_ok-empty.empty.first.0 (chain_of xs))))) (sym c.as_slice-rest.ensures) (c.covered_chain_is_told.ensures.antecedents _ _ _ _ _ _ c.requires.covers c.in_ok-empty.ensures.derived.chain)
+
+pub derived-requires-clause-chain : goal.derived-requires-clause-chain
+derived-requires-clause-chain g c =
+    rw (c.as_slice-lits.ensures, c.as_slice-rest.ensures) (c.covered_chain_is_told.ensures.chain _ _ _ _ _ _ c.requires.covers c.in_ok-empty.ensures.derived.chain)
+
+pub returns-clause-covers : goal.returns-clause-covers
+returns-clause-covers g c =
+    let old = c.args.held.now in
+    let given = ap (λ (h : HeldView). h.arena.given) c.in_ok-root.ensures.numbered in
+    let same = ap (λ (h : HeldView). h.arena.clauses) c.in_ok-root.ensures.numbered in
+    let chain = subst (λ (d : Clause). ChainOk (held_clause old.arena) d c.in_ok-empty.empty.first.0 (chain_of c.in_ok-empty.empty.rest)) (sym c.as_slice-lits.ensures) c.in_ok-empty.ensures.derived.chain in
+    let chain_too = subst (λ (xs : List Step). ChainOk (held_clause old.arena) c.as_slice-lits.result.now c.in_ok-empty.empty.first.0 (chain_of xs)) (sym c.as_slice-rest.ensures) chain in
+    let none = ap (option_map (λ (f : FlaggedClause). f.literals)) c.in_ok-root.ensures.fresh in
+    covers-numbered c.covering_is_kept.ensures.derived _ _ old.arena c.number.new.self.arena _ _ _ _ c.requires.covers c.in_ok-derived.ensures.told c.in_ok-root.ensures.next given same chain_too none
+
+pub returns-clause-refuted : goal.returns-clause-refuted
+returns-clause-refuted g c =
+    let old = c.args.held.now in
+    let empty = c.as_slice-lits.ensures ∙ c.in_ok-empty.ensures.empty in
+    record {
+      numbered = c.in_ok-root.ensures.numbered;
+      next = c.in_ok-root.ensures.next;
+      fresh = ap (option_map (λ (f : FlaggedClause). f.literals)) c.in_ok-root.ensures.fresh;
+      first = c.in_ok-empty.empty.first.0;
+      rest = c.in_ok-empty.empty.rest;
+      chain = subst (λ (d : Clause). ChainOk (held_clause old.arena) d c.in_ok-empty.empty.first.0 (chain_of c.in_ok-empty.empty.rest)) c.in_ok-empty.ensures.empty c.in_ok-empty.ensures.derived.chain;
+      told = subst (λ (d : Clause). Appends (g.T.Tracer.told c.args.tracer.now) (g.T.Tracer.told c.derived.new.self) (derived_step c.in_ok-root.root.0 d c.in_ok-empty.empty.first.0 c.in_ok-empty.empty.rest)) empty (subst (λ (xs : List Step). Appends (g.T.Tracer.told c.args.tracer.now) (g.T.Tracer.told c.derived.new.self) (derived_step c.in_ok-root.root.0 c.as_slice-lits.result.now c.in_ok-empty.empty.first.0 xs)) c.as_slice-rest.ensures c.in_ok-derived.ensures.told);
+    }

@@ -1,0 +1,4 @@
+pub mod Verdict
+pub mod Leaves
+pub mod Tells
+pub mod Searching

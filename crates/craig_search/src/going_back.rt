@@ -1,0 +1,58 @@
+//! Going back to an earlier level, with the variables that become free given back to the order.
+ghost use Rattle.std.specs.Prelude.{◌≡◌, ℕ, ◌<◌, ◌≤◌, true, All, length, slice_index_or};
+ghost use Rattle.craig_watch.specs.declared.trail_entry.TrailEntry.{TrailEntry};
+ghost use Rattle.craig_watch.specs.Trail.{part_up_to};
+ghost use Rattle.craig_watch.specs.Held.{IsConsistent};
+ghost use Rattle.craig_order.specs.Order.{is_given_back};
+ghost use Rattle.craig_search.specs.Leaves.{IsReady};
+
+use craig_base::Lit;
+use craig_order::Order;
+use craig_watch::{Held, entries_have_places, levels_rise, parts_keep_values};
+
+// Goes back to a level, and gives the variables that become free back to the order.
+pub(crate) fn go_back(held: &mut Held, order: &mut Order, level: u32)
+    requires below { level ≤ held.old.level }
+    requires ready { IsReady held.old order.old }
+    ensures back { held.new ≡ record held.old { trail = part_up_to level held.old.trail; level = level } }
+    ensures ready { IsReady held.new order.new }
+    ensures consistent { IsConsistent held.new }
+{
+    entries_have_places();
+    parts_keep_values();
+    let place = first_above(held, level);
+    give_back_each(order, &held.trail()[place..]);
+    held.back_to(level);
+}
+
+// Saves the phases of the variables, and gives them back.
+fn give_back_each(order: &mut Order, lits: &[Lit])
+    requires { All (λ l. l.var < length order.old.given_back) lits.now }
+    ensures known { length order.new.given_back ≡ length order.old.given_back }
+    ensures kept { (v : ℕ) → is_given_back order.old v ≡ true → is_given_back order.new v ≡ true }
+    ensures given { All (λ l. is_given_back order.new l.var ≡ true) lits.now }
+{
+    for lit in lits {
+        order.save(*lit);
+        order.give_back(lit.var());
+    }
+}
+
+// The place of the first literal on the trail of a level above this one, or the number of the literals.
+fn first_above(held: &Held, level: u32) -> usize
+    ensures within { result ≤ length held.now.trail }
+    ensures upto { (k : ℕ) (d : TrailEntry) → k < result → (slice_index_or held.now.trail k d).level ≤ level }
+    ensures above { (k : ℕ) (d : TrailEntry) → result ≤ k → k < length held.now.trail → level < (slice_index_or held.now.trail k d).level }
+{
+    entries_have_places();
+    levels_rise();
+    let trail = held.trail();
+    let mut place = trail.len();
+    while place > 0 {
+        if held.level_of(trail[place - 1].var()) <= level {
+            return place;
+        }
+        place -= 1;
+    }
+    0
+}

@@ -1,0 +1,96 @@
+//! Learning from a clause that is false.
+ghost use Rattle.std.specs.Prelude.{◌≡◌, ◌<◌, ◌+◌, Option, All, OnOk, is_some, length};
+ghost use Rattle.craig_spec.specs.Chain.{Told};
+ghost use Rattle.craig_watch.specs.Held.{HeldView, IsConsistent, IsFalsified, MayBeHeld, held_clause};
+ghost use Rattle.craig_proof.specs.Covers.{IsCovering};
+ghost use Rattle.craig_analyze.specs.Learnt.{IsDerived};
+ghost use Rattle.craig_search.specs.Leaves.{IsReady};
+ghost use Rattle.craig_search.specs.Searching.{IsNew, IsSearching, TellsLearnt, with_learnt};
+
+use crate::going_back::go_back;
+use craig_analyze::{Analysis, Learnt};
+use craig_base::{ClauseId, Flags, Lit};
+use craig_order::Order;
+use craig_proof::{
+    Tracer, chain_follows, chain_variables, covered_chain_is_told, covering_is_kept,
+};
+use craig_watch::{Held, asserting_clauses_may_be_held, entries_have_places};
+use std::alloc::AllocError;
+
+// Learns a clause from one that is false above level 0, goes back to where it forces its first literal, and holds it.
+pub(crate) fn learn<T: Tracer>(
+    held: &mut Held,
+    order: &mut Order,
+    tracer: &mut T,
+    analysis: &mut Analysis,
+    conflict: ClauseId,
+) -> Result<(), AllocError>
+    requires level { 0 < held.old.level }
+    requires conflict { IsFalsified held.old conflict.0 }
+    requires consistent { IsConsistent held.old }
+    requires ready { IsReady held.old order.old }
+    requires covers { IsCovering (T.told tracer.old) (held_clause held.old.arena) held.old.arena.given }
+    ensures searching { OnOk result ((start : HeldView) → IsSearching start held.old → IsSearching start held.new) }
+    ensures learnt { OnOk result ((start : HeldView) (before : Option Told) → IsSearching start held.old → TellsLearnt start before (T.told tracer.old) → TellsLearnt start before (T.told tracer.new)) }
+    ensures given { OnOk result (held.new.arena.given ≡ held.old.arena.given + 1) }
+    ensures consistent { OnOk result (IsConsistent held.new) }
+    ensures ready { OnOk result (IsReady held.new order.new) }
+    ensures covers { OnOk result (IsCovering (T.told tracer.new) (held_clause held.new.arena) held.new.arena.given) }
+    ensures tells { is_some (T.told tracer.new) ≡ is_some (T.told tracer.old) }
+    ensures kept { T.kept tracer.new ≡ T.kept tracer.old }
+{
+    asserting_clauses_may_be_held();
+    entries_have_places();
+    let learnt = analysis.learn_with(held, conflict)?;
+    let lits = learnt.lits.as_slice();
+    raise(order, lits);
+    go_back(held, order, learnt.back);
+    hold_learnt(held, tracer, &learnt)?;
+    Ok(())
+}
+
+// Raises the scores of the variables.
+fn raise(order: &mut Order, lits: &[Lit])
+    requires { All (λ l. l.var < length order.old.given_back) lits.now }
+    ensures { order.new ≡ order.old }
+{
+    for lit in lits {
+        order.bump(lit.var());
+    }
+    order.decay();
+}
+
+// Holds a learnt clause, and tells it with its chain.
+fn hold_learnt<T: Tracer>(
+    held: &mut Held,
+    tracer: &mut T,
+    learnt: &Learnt,
+) -> Result<(), AllocError>
+    requires derived { IsDerived held.old.arena learnt.now }
+    requires known { All (λ l. l.var < held.old.vars) learnt.now.lits }
+    requires fits { MayBeHeld held.old learnt.now.lits }
+    requires new { IsNew held.old.arena learnt.now.lits }
+    requires covers { IsCovering (T.told tracer.old) (held_clause held.old.arena) held.old.arena.given }
+    ensures searching { OnOk result ((start : HeldView) → IsSearching start held.old → IsSearching start held.new) }
+    ensures learnt { OnOk result ((start : HeldView) (before : Option Told) → IsSearching start held.old → TellsLearnt start before (T.told tracer.old) → TellsLearnt start before (T.told tracer.new)) }
+    ensures held { OnOk result (held.new ≡ record held.old { arena = with_learnt held.old.arena learnt.now }) }
+    ensures consistent { OnOk result (IsConsistent held.new) }
+    ensures covers { OnOk result (IsCovering (T.told tracer.new) (held_clause held.new.arena) held.new.arena.given) }
+    ensures tells { is_some (T.told tracer.new) ≡ is_some (T.told tracer.old) }
+    ensures kept { T.kept tracer.new ≡ T.kept tracer.old }
+{
+    chain_follows();
+    chain_variables();
+    covered_chain_is_told();
+    covering_is_kept();
+    let flags = Flags {
+        learnt: true,
+        kept: false,
+        glue: learnt.glue,
+    };
+    let lits = learnt.lits.as_slice();
+    let rest = learnt.rest.as_slice();
+    let id = held.hold(lits, flags)?;
+    tracer.derived(id, lits, learnt.first, rest)?;
+    Ok(())
+}

@@ -1,0 +1,20 @@
+//! Conflict-driven search for a model of held clauses, or for a refutation with its resolution chain.
+//!
+//! After Marques-Silva and Sakallah, "GRASP", IEEE Transactions on Computers 48, 1999, and Eén and Sörensson, "An
+//! Extensible SAT-solver", SAT 2003: unit propagation, a decision where nothing is forced, and a learnt clause and a
+//! jump back where a clause is false. A search ends, since no learnt clause contains a held one, and over `v` variables
+//! there are at most `3^v` such clauses.
+#![tactic(auto)]
+
+mod conflict_driven;
+mod going_back;
+mod journal;
+mod learning;
+mod places;
+mod refuting;
+mod verdict;
+
+pub use conflict_driven::search;
+pub use journal::Journal;
+pub use places::Places;
+pub use verdict::Verdict;

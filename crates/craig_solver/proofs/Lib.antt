@@ -1,0 +1,14 @@
+mod AcceptedLemmas
+mod AnswerLemmas
+mod ArenaLemmas
+mod ClauseLemmas
+mod ForgottenLemmas
+mod GrownLemmas
+mod HeldLemmas
+mod ListLemmas
+mod ReadyLemmas
+mod RefutedLemmas
+mod SearchedLemmas
+mod StandLemmas
+mod ToldLemmas
+pub mod ValueLemmas

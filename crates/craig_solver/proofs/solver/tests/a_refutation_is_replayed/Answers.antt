@@ -1,0 +1,6 @@
+use Rattle.craig_solver.proofs.RefutedLemmas.{replayable}
+use Rattle.craig_solver.proofs.solver.tests.a_refutation_is_replayed.Goals as goal
+
+pub replay-requires-clause-root : goal.replay-requires-clause-root
+replay-requires-clause-root g c =
+    replayable _ _ c.in_ok-root.field-0 c.in-Failed.root c.in-Failed.places c.solve.new.self.tracer c.tracer.result.now c.in-Failed.is c.in_ok-root.ensures.told c.tracer.ensures.value

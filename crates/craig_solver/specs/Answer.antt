@@ -1,0 +1,18 @@
+-- What a solver answers.
+use Rattle.std.specs.Prelude.{◌≡◌, ℕ, List, ◌++◌, Option, Some, length}
+use Rattle.craig_spec.specs.Literal.{Clause}
+use Rattle.craig_spec.specs.Truth.{IsModel, AreContradictory}
+use Rattle.craig_base.specs.LemmaRule.{MeetsLemmaRule}
+use Rattle.craig_base.specs.Values.{assignment_of_values}
+use Rattle.craig_search.specs.Verdict.{Assumptions, AreFirstPlaces, at_places, units}
+use Rattle.craig_solver.specs.declared.answer.Answer.{Answer}
+use Rattle.craig_solver.specs.declared.answer.Answer.TheVariants.{Model, Failed, Limit}
+
+-- what the answer says of the accepted clauses and the assumptions: a model of them all; assumptions by their first places that the clauses contradict; or as many lemmas as the limit
+abbrev pub IsAnswer : List Clause → ℕ → Assumptions → Option ℕ → Answer → Type 0
+IsAnswer clauses vars assumptions limit (Model values) =
+    (length values ≡ vars) × IsModel (assignment_of_values values) (clauses ++ units assumptions)
+IsAnswer clauses vars assumptions limit (Failed root places) =
+    AreFirstPlaces assumptions places × AreContradictory clauses (units (at_places assumptions places))
+IsAnswer clauses vars assumptions limit (Limit lemmas) =
+    (limit ≡ Some (length lemmas)) × MeetsLemmaRule clauses lemmas

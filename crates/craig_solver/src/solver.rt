@@ -1,0 +1,233 @@
+//! The incremental solver.
+ghost use Rattle.std.specs.Prelude.{◌≡◌, ◌≢◌, ◌<◌, ◌≤◌, [], ◌∷◌, ◌++◌, true, false, Some, None, All, IfOk, OnOk, OnErr, IsErr, is_some, length, max, slice_index_or};
+ghost use Rattle.std.specs.Option.{ForSome};
+ghost use Rattle.craig_spec.specs.Chain.{nothing_told};
+ghost use Rattle.craig_solver.specs.Answer.{IsAnswer};
+ghost use Rattle.craig_solver.specs.Solver.{AreReordered, StandFor, accepted_clauses};
+ghost use Rattle.craig_solver.specs.Told.{IsToldOf, TellsAnswer};
+
+use crate::Answer;
+use crate::state::State;
+use craig_base::{Lit, Lits, Part};
+use craig_proof::Tracer;
+use std::alloc::{AllocError, Global};
+use std::marker::Model;
+
+/// An incremental solver over dense variables, with a tracer that is told its clauses.
+///
+/// Contracts see the accepted clauses as they were written, each with its part, the number of known variables, the held
+/// clauses that are not learnt, the tracer, and whether memory was refused. After an `AllocError` the solver is dead:
+/// its accepted clauses are as before, and each later call that can answer `AllocError` does so.
+#[derive(Drop)]
+pub struct Solver<T: Tracer> {
+    state: State<T>,
+    dead: bool,
+}
+
+impl<T: Tracer> Model for Solver<T> {
+    ghost use Rattle.std.specs.Prelude.{◌≡◌, false, [], if◌then◌else◌};
+    ghost use Rattle.craig_solver.specs.Solver.{SolverView};
+    ghost use Rattle.craig_solver.specs.State.{IsState, clauses_under};
+
+    ghost Value = { SolverView T };
+
+    ghost view = { λ s. record { accepted = s.state.accepted.items; vars = s.state.held.vars; held = if s.dead then [] else clauses_under s.state.held.arena s.state.kept.items; tracer = s.state.tracer; dead = s.dead } };
+
+    ghost invariant = { λ s. s.dead ≡ false → IsState (T.told s.state.tracer) s.state.accepted.items s.state.held s.state.order s.state.kept.items s.state.root };
+}
+
+impl<T: Tracer> Solver<T> {
+    /// A solver that accepted no clause and knows no variable. It takes no memory. A tracer that tells its meaning was
+    /// told nothing yet.
+    pub fn new(alloc: Global, tracer: T) -> Solver<T>
+        requires { ForSome (T.told tracer) (λ t. t ≡ nothing_told) }
+        ensures { result ≡ record { accepted = []; vars = 0; held = []; tracer = tracer; dead = false } }
+    {
+        Solver {
+            state: State::new(alloc, tracer),
+            dead: false,
+        }
+    }
+
+    /// Makes all variables below `vars` known. No variable becomes unknown.
+    pub fn reach(&mut self, vars: u32) -> Result<(), AllocError>
+        requires { vars ≤ 2147483648 }
+        ensures reached { OnOk result (self.new ≡ record self.old { vars = max self.old.vars vars }) }
+        ensures accepted { self.new.accepted ≡ self.old.accepted }
+        ensures dead { OnErr result (self.new.dead ≡ true) }
+        ensures refused { self.old.dead ≡ true → IsErr result }
+        ensures tells { is_some (T.told self.new.tracer) ≡ is_some (T.told self.old.tracer) }
+        ensures kept { T.kept self.new.tracer ≡ T.kept self.old.tracer }
+    {
+        if self.dead {
+            return Err(AllocError);
+        }
+        self.dead = true;
+        self.state.reach(vars)?;
+        self.dead = false;
+        Ok(())
+    }
+
+    /// Accepts a clause of a part: literals of known variables, in any order, with repeats or opposite ones. It is
+    /// stored as written. Unless it is a tautology, it is held without repeats, and the tracer is told of it.
+    pub fn add(&mut self, part: Part, lits: &[Lit]) -> Result<(), AllocError>
+        requires { All (λ l. l.var < self.old.vars) lits.now }
+        ensures accepted { OnOk result (self.new.accepted ≡ self.old.accepted ++ (part, lits.now) ∷ []) }
+        ensures vars { OnOk result (self.new.vars ≡ self.old.vars) }
+        ensures alive { OnOk result (self.new.dead ≡ false) }
+        ensures unchanged { OnErr result (self.new.accepted ≡ self.old.accepted) }
+        ensures dead { OnErr result (self.new.dead ≡ true) }
+        ensures refused { self.old.dead ≡ true → IsErr result }
+        ensures tells { is_some (T.told self.new.tracer) ≡ is_some (T.told self.old.tracer) }
+        ensures kept { T.kept self.new.tracer ≡ T.kept self.old.tracer }
+    {
+        if self.dead {
+            return Err(AllocError);
+        }
+        self.dead = true;
+        self.state.add(part, lits)?;
+        self.dead = false;
+        Ok(())
+    }
+
+    /// Searches for values of the known variables that make all accepted clauses and all assumptions true.
+    ///
+    /// Each assumption is a literal of a known variable, in a part. The answer is a model; or assumptions, by their
+    /// places, that no assignment makes true together with the accepted clauses; or as many learnt clauses as `limit`
+    /// says, which is not 0. A tracer that tells its meaning was then told the empty clause of a refutation, which
+    /// rests on accepted clauses and on the units of these assumptions alone. The accepted clauses stay, and the held
+    /// ones may change the order of their literals.
+    ///
+    /// No assumption and no limit can be given yet.
+    pub fn solve(
+        &mut self,
+        assumptions: &[(Part, Lit)],
+        limit: Option<u64>,
+    ) -> Result<Answer, AllocError>
+        requires known { All (λ a. a.1.var < self.old.vars) assumptions.now }
+        requires limit { limit ≢ Some 0 }
+        requires no_assumption { assumptions.now ≡ [] }
+        requires no_limit { limit ≡ None }
+        ensures answer { IfOk result (IsAnswer (accepted_clauses self.old.accepted) self.old.vars assumptions.now limit) }
+        ensures told { IfOk result (λ a. ForSome (T.told self.new.tracer) (TellsAnswer self.old.accepted assumptions.now a)) }
+        ensures accepted { self.new.accepted ≡ self.old.accepted }
+        ensures vars { OnOk result (self.new.vars ≡ self.old.vars) }
+        ensures held { OnOk result (AreReordered self.old.held self.new.held) }
+        ensures alive { OnOk result (self.new.dead ≡ false) }
+        ensures dead { OnErr result (self.new.dead ≡ true) }
+        ensures refused { self.old.dead ≡ true → IsErr result }
+        ensures tells { is_some (T.told self.new.tracer) ≡ is_some (T.told self.old.tracer) }
+        ensures kept { T.kept self.new.tracer ≡ T.kept self.old.tracer }
+    {
+        if self.dead {
+            return Err(AllocError);
+        }
+        self.dead = true;
+        let answer = self.state.solve(assumptions, limit)?;
+        self.dead = false;
+        Ok(answer)
+    }
+
+    /// The number of known variables: they are those below it.
+    pub fn vars(&self) -> u32
+        ensures value { result ≡ self.now.vars }
+        ensures few { self.now.vars ≤ 2147483648 }
+    {
+        self.state.held.vars()
+    }
+
+    /// The accepted clauses as they were written, each with its part, first to last.
+    pub fn accepted(&self) -> &[(Part, Lits)]
+        ensures value { result.now ≡ self.now.accepted }
+        ensures known { self.now.dead ≡ false → All (λ a. All (λ l. l.var < self.now.vars) a.1) self.now.accepted }
+    {
+        self.state.accepted.as_slice()
+    }
+
+    /// How many clauses are held that are not learnt. A dead solver shows none.
+    pub fn held_len(&self) -> usize
+        ensures value { result ≡ length self.now.held }
+        ensures stand { self.now.dead ≡ false → StandFor (accepted_clauses self.now.accepted) self.now.held }
+    {
+        if self.dead {
+            return 0;
+        }
+        self.state.kept.len()
+    }
+
+    /// The literals of a held clause that is not learnt, in any order. These clauses are counted from 0, in the order
+    /// in which they were added.
+    pub fn held(&self, place: usize) -> &[Lit]
+        requires { place < length self.now.held }
+        ensures { result.now ≡ slice_index_or self.now.held place [] }
+    {
+        let id = self.state.kept[place];
+        self.state.held.arena().lits(id)
+    }
+
+    /// The tracer. Where it tells its meaning, the steps that it keeps stand on one another, and each original is an
+    /// accepted clause.
+    pub fn tracer(&self) -> &T
+        ensures value { result.now ≡ self.now.tracer }
+        ensures told { self.now.dead ≡ false → ForSome (T.told self.now.tracer) (IsToldOf self.now.accepted) }
+    {
+        &self.state.tracer
+    }
+}
+
+#[cfg(test)]
+mod tests {
+    use super::*;
+    use craig_base::Var;
+    use craig_proof::{ChainStore, Silent};
+    use std::test::Fail;
+
+    #[test]
+    fn a_model_gives_each_variable_its_value(rt: HostRuntime) -> Result<(), Fail> {
+        let v0 = Lit::new(Var(0), false);
+        let v1 = Lit::new(Var(1), false);
+        let mut solver = Solver::new(rt.alloc(), Silent);
+        solver.reach(2)?;
+        solver.add(Part(1), &[v0, v1])?;
+        let Answer::Model(_) = solver.solve(&[], None)? else {
+            panic!(rt; "the clause has a model");
+        };
+        solver.add(Part(2), &[v0.not()])?;
+        solver.add(Part(2), &[v0, v1, v0.not()])?;
+        let Answer::Model(values) = solver.solve(&[], None)? else {
+            panic!(rt; "the clauses have a model");
+        };
+        assert!(rt; !values.get(Var(0)));
+        assert!(rt; values.get(Var(1)));
+        assert_eq!(rt; solver.vars(), 2);
+        assert_eq!(rt; solver.accepted().len(), 3);
+        let 2 = solver.held_len() else {
+            panic!(rt; "the tautology is not held");
+        };
+        assert_eq!(rt; solver.held(1), [v0.not()].as_slice());
+        Ok(())
+    }
+
+    #[test]
+    fn a_refutation_is_replayed(rt: HostRuntime) -> Result<(), Fail> {
+        let v0 = Lit::new(Var(0), false);
+        let v1 = Lit::new(Var(1), false);
+        let mut solver = Solver::new(rt.alloc(), ChainStore::new(rt.alloc()));
+        solver.reach(2)?;
+        solver.add(Part(1), &[v0, v1])?;
+        solver.add(Part(1), &[v0, v1.not()])?;
+        solver.add(Part(2), &[v0.not(), v1])?;
+        solver.add(Part(2), &[v0.not(), v1.not()])?;
+        let Answer::Failed { root, places } = solver.solve(&[], None)? else {
+            panic!(rt; "no assignment makes all four true");
+        };
+        assert!(rt; places.as_slice().is_empty());
+        let mut part = ChainStore::new(rt.alloc());
+        solver.tracer().replay(root, &mut part)?;
+        let Answer::Failed { root: again, .. } = solver.solve(&[], None)? else {
+            panic!(rt; "the clauses are the same");
+        };
+        assert!(rt; root < again);
+        Ok(())
+    }
+}

@@ -1,0 +1,214 @@
+#!/usr/bin/env python3
+"""Times how circuits are built, laid out, written and read, and prints nanoseconds a gate.
+
+    bench/circuits.py [GATES ..]
+
+Chains of so many gates over 1000 inputs, 10000, 100000 and 1000000 if none is named, are built in an arena, laid out,
+written in the ASCII form and read back. The program that does it is written into a copy of the crates, proved and run
+by `rt run`, which takes some minutes where nothing is kept. Nothing here is a test: it prints figures to compare in
+one run.
+"""
+
+import os
+import shutil
+import subprocess
+import sys
+import tempfile
+
+ROOT = os.path.dirname(os.path.dirname(os.path.abspath(__file__)))
+
+PROGRAM = r"""//! Builds, lays out and writes circuits of several sizes, and prints how long each step takes.
+#![tactic(auto)]
+
+ghost use Rattle.std.specs.Prelude.{◌≡◌, ◌<◌, ◌≤◌, ℕ, length, Contains, IfOk};
+ghost use Rattle.craig_aig.specs.Cones.{cone};
+
+use anyhow::Result;
+use craig_aig::{Aig, Edge};
+use craig_aiger::{Form, Layout, OutName};
+use craig_base::{Names, Var};
+use std::alloc::{AllocError, Global};
+use std::time::Instant;
+
+const INPUTS: u32 = 1000;
+
+// Names for the inputs.
+fn named(alloc: Global) -> Result<Names, AllocError> {
+    let mut names = Names::new(alloc);
+    for variable in 0..INPUTS {
+        let _ = names.dense(1 + 7 * variable)?;
+    }
+    Ok(names)
+}
+
+// One gate more on the chain.
+fn longer(aig: &mut Aig, names: &Names, last: Edge, variable: u32) -> Result<Edge, AllocError>
+    requires last { last.place < length aig.old }
+    requires cone { (x : ℕ) → Contains (cone aig.old last) x → x < length names.now }
+    requires variable { variable < length names.now }
+    ensures edge { IfOk result (λ e. e.place < length aig.new) }
+    ensures cone { IfOk result (λ e. (x : ℕ) → Contains (cone aig.new e) x → x < length names.now) }
+{
+    let input = aig.input(Var(variable))?;
+    aig.and(input, Aig::not(last))
+}
+
+// A chain of so many gates.
+fn chain(aig: &mut Aig, names: &Names, gates: u32) -> Result<Edge, AllocError>
+    requires { INPUTS ≤ length names.now }
+    ensures edge { IfOk result (λ e. e.place < length aig.new) }
+    ensures cone { IfOk result (λ e. (x : ℕ) → Contains (cone aig.new e) x → x < length names.now) }
+{
+    let _ = aig.len();
+    let mut last = Aig::constant(true);
+    for place in 0..gates {
+        last = longer(aig, names, last, place % INPUTS)?;
+    }
+    Ok(last)
+}
+
+// The layout of one output.
+fn of_one(alloc: Global, aig: &Aig, names: &Names, edge: Edge) -> Result<Layout, AllocError>
+    requires edge { edge.place < length aig.now }
+    requires inputs { (x : ℕ) → Contains (cone aig.now edge) x → x < length names.now }
+{
+    let name = OutName {
+        family: None,
+        cut: 0,
+    };
+    Layout::new(alloc, aig, names, &[(name, edge)])
+}
+
+// Prints the number of gates, the bytes, and the nanoseconds of building, layout, size, writing and reading.
+fn measure(rt: &HostRuntime, gates: u32) -> Result<()> {
+    let alloc = rt.alloc();
+    let names = named(alloc)?;
+    if names.len() < INPUTS {
+        return Ok(());
+    }
+    let mut aig = Aig::new(alloc);
+    let start = Instant::now(rt)?;
+    let last = chain(&mut aig, &names, gates)?;
+    let built = start.elapsed(rt)?.as_nanos();
+    let start = Instant::now(rt)?;
+    let layout = of_one(alloc, &aig, &names, last)?;
+    let laid_out = start.elapsed(rt)?.as_nanos();
+    let start = Instant::now(rt)?;
+    let size = layout.size_of(Form::Aag);
+    let counted = start.elapsed(rt)?.as_nanos();
+    let mut text = Vec::new(alloc);
+    let start = Instant::now(rt)?;
+    layout.write_aag(&mut text)?;
+    let written = start.elapsed(rt)?.as_nanos();
+    let start = Instant::now(rt)?;
+    let back = craig_aiger::read(alloc, text.as_slice());
+    let read = start.elapsed(rt)?.as_nanos();
+    if back.is_err() {
+        println!(rt; "not read")?;
+    }
+    println!(rt; "{gates} {size} {built} {laid_out} {counted} {written} {read}")?;
+    Ok(())
+}
+
+fn main(rt: HostRuntime) -> Result<()> {
+    for gates in [GATES] {
+        measure(&rt, gates)?;
+    }
+    Ok(())
+}
+"""
+
+CHAIN_INVARIANTS = r"""use Rattle.std.proofs.Common.{ℕ, ◌<◌, length, Contains}
+use Rattle.craig_aig.specs.Cones.{cone}
+use Rattle.circuit_times.proofs.chain.Given as goal
+
+abbrev pub invariant-loop-place : goal.invariant-loop-place
+invariant-loop-place l = record {
+  edge : l.last.place < length l.aig;
+  inputs : (x : ℕ) → Contains (cone l.aig l.last) x → x < length l.names;
+}
+"""
+
+LONGER_ANSWERS = r"""use Rattle.std.proofs.Common.{◌≡◌, inl, inr, ℕ, ◌<◌, List, [], ◌∷◌, length, Contains, Result, Ok, Err, IfOk, ◌∙◌, ap, length-append, arith, subst}
+use Rattle.std.specs.declared.alloc.AllocError.{AllocError}
+use Rattle.craig_aig.specs.Cones.{cone, ConeWithin}
+use Rattle.craig_aig.specs.Edges.{Edge}
+use Rattle.craig_aig.specs.Growth.{Extends, KeepsEdges}
+use Rattle.craig_aig.specs.declared.node.Node.{Node}
+use Rattle.circuit_times.proofs.longer.Goals as goal
+
+one_member : (xs : List ℕ) (v x n : ℕ) → xs ≡ v ∷ [] → v < n → Contains xs x → x < n
+one_member xs v x n is below h =
+    let m = subst (λ l. Contains l x) is h in
+    let first : m.0 ≡ 0 = omega (arith, m.1) in
+    let e : v ≡ x = rw first at m.2 in
+    omega (arith, e)
+
+grown_cone : (first second third : List Node) (input last other : Edge) (r : Result Edge AllocError) (v n : ℕ) → cone second input ≡ v ∷ [] → KeepsEdges first second → last.place < length first → Extends first second → cone second other ≡ cone second last → ((x : ℕ) → Contains (cone first last) x → x < n) → IfOk r (ConeWithin second input other third) → v < n → IfOk r (λ e. (x : ℕ) → Contains (cone third e) x → x < n)
+grown_cone first second third input last other (Err e) v n one kept within grown same old h below = h
+grown_cone first second third input last other (Ok edge) v n one kept within grown same old h below = λ x m.
+    let later : last.place < length second = omega (arith, within, ap length grown.1, length-append first grown.0) in
+    elim (h x m) [
+      | inl p ↦ one_member (cone second input) v x n one below p
+      | inr p ↦ old x (subst (λ l. Contains l x) (same ∙ (kept last within later).cone_is) p)
+    ]
+
+pub returns-clause-cone : goal.returns-clause-cone
+returns-clause-cone c =
+    grown_cone c.args.aig.now c.input.new.self c.and.new.self c.in_ok-input.input c.args.last c.not.result c.and.result c.args.variable _ c.in_ok-input.ensures.cone c.in_ok-input.ensures.kept c.requires.last c.in_ok-input.ensures.extends (c.not.ensures.cone c.input.new.self) c.requires.cone c.and.ensures.cone c.requires.variable
+"""
+
+OF_ONE_ANSWERS = r"""use Rattle.std.proofs.Common.{ℕ, zero, suc, [], ◌∷◌, All, Contains, length, ◌<◌, None, arith}
+use Rattle.craig_aig.specs.Cones.{cone}
+use Rattle.craig_aig.specs.Edges.{Edge}
+use Rattle.craig_aiger.specs.declared.out_name.OutName.{OutName}
+use Rattle.circuit_times.proofs.of_one.Goals as goal
+
+All-one : {X : Type 0} (P : X → Type 0) (x : X) → P x → All P (x ∷ [])
+All-one P x p zero d within = p
+All-one P x p (suc k) d within = absurd (omega arith)
+
+pub new-requires-clause-inputs : goal.new-requires-clause-inputs
+new-requires-clause-inputs c = All-one (λ (o : OutName × Edge). (x : ℕ) → Contains (cone c.args.aig.now o.1) x → x < length c.args.names.now) (record { family = None; cut = 0 }, c.args.edge) c.requires.inputs
+"""
+
+FILES = {
+    "src/main.rt": PROGRAM,
+    "proofs/Lib.antt": "",
+    "proofs/chain/Invariants.antt": CHAIN_INVARIANTS,
+    "proofs/longer/Answers.antt": LONGER_ANSWERS,
+    "proofs/of_one/Answers.antt": OF_ONE_ANSWERS,
+}
+
+
+def write_crate(folder, sizes):
+    """A copy of the crates with the program beside them; the folder of the program is given back."""
+    shutil.copytree(os.path.join(ROOT, "crates"), os.path.join(folder, "crates"), ignore=shutil.ignore_patterns("out"))
+    with open(os.path.join(ROOT, "crates.txt")) as old, open(os.path.join(folder, "crates.txt"), "w") as new:
+        new.write(old.read() + "circuit_times: anyhow craig_base craig_aig craig_aiger\n")
+    shutil.copy(os.path.join(ROOT, "HANDLES"), folder)
+    crate = os.path.join(folder, "crates", "circuit_times")
+    for name, text in FILES.items():
+        path = os.path.join(crate, name)
+        os.makedirs(os.path.dirname(path), exist_ok=True)
+        with open(path, "w") as out:
+            out.write(text.replace("[GATES]", "[%s]" % ", ".join(map(str, sizes))))
+    return crate
+
+
+def main():
+    sizes = [int(word) for word in sys.argv[1:]] or [10**4, 10**5, 10**6]
+    with tempfile.TemporaryDirectory() as folder:
+        run = subprocess.run(["rt", "run"], cwd=write_crate(folder, sizes), capture_output=True, text=True)
+    if run.returncode != 0:
+        sys.exit(run.stdout + run.stderr)
+    print("%9s %10s" % ("gates", "bytes") + "".join(" %9s" % name for name in ("building", "layout", "size", "writing", "reading")))
+    for line in run.stdout.splitlines():
+        figures = line.split()
+        if len(figures) == 7 and all(figure.isdigit() for figure in figures):
+            gates, size, *times = map(int, figures)
+            print("%9d %10d" % (gates, size) + "".join(" %9.1f" % (time / gates) for time in times))
+
+
+if __name__ == "__main__":
+    main()

@@ -73,8 +73,8 @@ ok-err : {f : Fault} → ◌≡◌ {A = Result (Unit {0}) Fault} (Ok tt) (Err f)
 ok-err e = cc
 
 -- four lists of lines, the first fault of which is that of all
-pub undefined-four : {L1 L2 L3 L4 X1 X2 X3 X4 : Type 0} (variables : List ℕ) (u1 : L1 → Use) (u2 : L2 → Use) (u3 : L3 → Use) (u4 : L4 → Use) (m1 : L1 → X1) (m2 : L2 → X2) (m3 : L3 → X3) (m4 : L4 → X4)
-    (l1 : List L1) (l2 : List L2) (l3 : List L3) (l4 : List L4) (f : Fault) →
+pub undefined-four : {First Second Third Fourth X1 X2 X3 X4 : Type 0} (variables : List ℕ) (u1 : First → Use) (u2 : Second → Use) (u3 : Third → Use) (u4 : Fourth → Use) (m1 : First → X1) (m2 : Second → X2) (m3 : Third → X3) (m4 : Fourth → X4)
+    (l1 : List First) (l2 : List Second) (l3 : List Third) (l4 : List Fourth) (f : Fault) →
     (lines_numbered variables u1 m1 l1 >>= λ a. (lines_numbered variables u2 m2 l2 >>= λ b. (lines_numbered variables u3 m3 l3 >>= λ c. (lines_numbered variables u4 m4 l4 >>= λ d. Ok (tt {0}))))) ≡ Err f →
     UndefinedAt variables (map u1 l1 ++ (map u2 l2 ++ (map u3 l3 ++ map u4 l4))) f
 undefined-four variables u1 u2 u3 u4 m1 m2 m3 m4 l1 l2 l3 l4 f e =

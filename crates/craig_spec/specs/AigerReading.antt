@@ -3,7 +3,7 @@
 --
 -- After Biere, Heljanko and Wieringa, AIGER 1.9 and beyond, 2011. A text has a header, one line for each input,
 -- latch, output, bad literal and gate, and then symbols and comments. What is read has its variables numbered anew.
-use Rattle.std.specs.Prelude.{ℕ, zero, suc, ◌+◌, ◌-◌, ◌*◌, ◌/◌, ◌%◌, Bool, true, false, not, ◌&&◌, ◌||◌, ◌==◌, nat_eq, nat_le, nat_lt, max, List, [], ◌∷◌, ◌++◌, length, take, drop, map, find, filter, take_while, slice_get, slice_index, slice_index_or, Option, Some, None, Result, Ok, Err, codes, is_none, if◌then◌else◌}
+use Rattle.std.specs.Prelude.{ℕ, zero, suc, ◌+◌, ◌-◌, ◌*◌, ◌/◌, ◌%◌, Bool, true, false, not, ◌&&◌, ◌==◌, nat_eq, nat_le, nat_lt, max, List, [], ◌∷◌, ◌++◌, length, take, drop, map, find, filter, take_while, slice_get, slice_index, slice_index_or, Option, Some, None, Result, Ok, Err, codes, is_none, if◌then◌else◌}
 use Rattle.std.specs.Option.{option_map}
 use Rattle.std.specs.List.{before_first, after_first, enumerate_from, flat_map, list_all, list_any, position_or_len, range_with_len, slice_split}
 use Rattle.std.specs.Char.{is_ascii_digit}

@@ -2,8 +2,9 @@
 --
 -- Variable 0 is the constant false, the variables from 1 on are the inputs in order, and then come the gates.
 -- Literal 2v is variable v, and literal 2v + 1 its negation. After Biere, the AIGER and-inverter graph format.
-use Rattle.std.specs.Prelude.{◌≡◌, ℕ, ◌+◌, ◌<◌, ◌/◌, ◌%◌, Bool, false, not, ◌&&◌, ◌==◌, List, [], ◌∷◌, ◌++◌, length, map, slice_get, Some, slice_index_or, if◌then◌else◌, All}
+use Rattle.std.specs.Prelude.{◌≡◌, ◌≢◌, ℕ, ◌+◌, ◌<◌, ◌≤◌, ◌/◌, ◌%◌, Bool, false, not, ◌&&◌, ◌==◌, List, [], ◌∷◌, ◌++◌, length, map, slice_get, Some, slice_index_or, if◌then◌else◌, All, AllPairs, IsTrue}
 use Rattle.std.specs.List.{fold}
+use Rattle.std.specs.List.Sorted.{IsStrictlyIncreasing}
 use Rattle.craig_spec.specs.Truth.{Assignment, variable_value}
 
 -- a gate is true where both of its operand literals are
@@ -62,3 +63,18 @@ circuit_cones inputs gates = each_variable gate_cone ([] ∷ map (λ x. x ∷ []
 -- the input variables that a literal of a circuit reaches through the operands of gates
 abbrev pub circuit_cone : Circuit → ℕ → List ℕ
 circuit_cone c l = slice_index_or (circuit_cones c.inputs c.gates) (l / 2) []
+
+-- with each gate the set of variables has those of its operands
+abbrev pub IsClosed : Circuit → (ℕ → Bool) → Type 0
+IsClosed c has = (j : ℕ) (g : Gate) → slice_get c.gates j ≡ Some g → IsTrue (has (1 + length c.inputs + j)) → IsTrue (has (g.left / 2)) × IsTrue (has (g.right / 2))
+
+-- the variable is in each closed set that has those of the outputs: it is reached from an output
+abbrev pub IsReached : Circuit → ℕ → Type 0
+IsReached c v = (has : ℕ → Bool) → All (λ o. IsTrue (has (o.literal / 2))) c.outputs → IsClosed c has → IsTrue (has v)
+
+-- nothing is there twice or for nothing: the inputs rise, a gate has two variables, the greater first, no two gates are the same, and each input and gate is reached
+pub record IsStrict (c : Circuit) : Type 0 where
+  pub rising : IsStrictlyIncreasing c.inputs
+  pub operands : (j : ℕ) (g : Gate) → slice_get c.gates j ≡ Some g → (1 ≤ g.right / 2) × (g.right / 2 < g.left / 2)
+  pub distinct : AllPairs (λ g h. g ≢ h) c.gates
+  pub reached : (v : ℕ) → 1 ≤ v → v < variable_count c → IsReached c v

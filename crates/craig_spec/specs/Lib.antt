@@ -3,5 +3,10 @@ pub mod Truth
 pub mod Occurs
 pub mod Chain
 pub mod Needed
+pub mod PartialInterpolant
 pub mod Circuit
 pub mod AigerReading
+pub mod Cut
+pub mod FailedAssumptions
+pub mod Sequence
+pub mod DrawnFromOneRefutation

@@ -7,13 +7,21 @@ Chains of so many gates over 1000 inputs, 10000, 100000 and 1000000 if none is n
 written in the ASCII form and read back. The program that does it is written into a copy of the crates, proved and run
 by `rt run`, which takes some minutes where nothing is kept. Nothing here is a test: it prints figures to compare in
 one run.
+
+Where berkeley-abc is installed, it reads the same circuit in the binary form, which is the one that it takes, and the
+last column is the time of `read` as a ratio to its time. Its reading builds a hashed network, and `read` a list of
+gates by depth. It goes down a deep chain by recursion, so it is given all the stack that there is.
 """
 
 import os
+import resource
 import shutil
 import subprocess
 import sys
 import tempfile
+import time
+
+from other_readers import binary_form
 
 ROOT = os.path.dirname(os.path.dirname(os.path.abspath(__file__)))
 
@@ -196,18 +204,62 @@ def write_crate(folder, sizes):
     return crate
 
 
+def chain_text(gates):
+    """The text of the chain that the program builds: its first two conjunctions are folded."""
+    used = min(gates, 1000)
+    first = 0 if gates > 1000 else 1
+    literal = {variable: 2 * (variable - first + 1) for variable in range(first, used)}
+    lines = []
+    last = literal[1]
+    for place in range(2, gates):
+        own = 2 * (len(literal) + len(lines) + 1)
+        left, right = sorted((literal[place % 1000], last ^ 1), reverse=True)
+        lines.append("%d %d %d" % (own, left, right))
+        last = own
+    header = "aag %d %d 0 1 %d" % (len(literal) + len(lines), len(literal), len(lines))
+    symbols = ["i%d %d" % (place, 1 + 7 * variable) for place, variable in enumerate(literal)] + ["o0 0"]
+    return "".join(line + "\n" for line in [header, *map(str, literal.values()), str(last), *lines, *symbols]).encode()
+
+
+def with_all_stack():
+    resource.setrlimit(resource.RLIMIT_STACK, (resource.RLIM_INFINITY, resource.RLIM_INFINITY))
+
+
+def seconds_of_abc(commands):
+    start = time.perf_counter()
+    subprocess.run(["berkeley-abc", "-q", commands], check=True, stdout=subprocess.DEVNULL, preexec_fn=with_all_stack)
+    return time.perf_counter() - start
+
+
+def reading_by_abc(text, gates):
+    """The nanoseconds in which berkeley-abc reads the circuit of the text."""
+    with tempfile.NamedTemporaryFile(suffix=".aig") as file:
+        file.write(binary_form(text))
+        file.flush()
+        times = max(1, 3 * 10**6 // gates)
+        return (seconds_of_abc("; ".join(["read_aiger " + file.name] * times)) - seconds_of_abc("")) / times * 10**9
+
+
 def main():
     sizes = [int(word) for word in sys.argv[1:]] or [10**4, 10**5, 10**6]
     with tempfile.TemporaryDirectory() as folder:
         run = subprocess.run(["rt", "run"], cwd=write_crate(folder, sizes), capture_output=True, text=True)
     if run.returncode != 0:
         sys.exit(run.stdout + run.stderr)
-    print("%9s %10s" % ("gates", "bytes") + "".join(" %9s" % name for name in ("building", "layout", "size", "writing", "reading")))
+    columns = ["building", "layout", "size", "writing", "reading"]
+    beside = shutil.which("berkeley-abc") is not None
+    print("%9s %10s" % ("gates", "bytes") + "".join(" %9s" % name for name in columns + ["abc", "ratio"] * beside))
     for line in run.stdout.splitlines():
         figures = line.split()
         if len(figures) == 7 and all(figure.isdigit() for figure in figures):
             gates, size, *times = map(int, figures)
-            print("%9d %10d" % (gates, size) + "".join(" %9.1f" % (time / gates) for time in times))
+            row = "".join(" %9.1f" % (nanoseconds / gates) for nanoseconds in times)
+            if beside:
+                text = chain_text(gates)
+                assert len(text) == size
+                other = reading_by_abc(text, gates)
+                row += " %9.1f %9.2f" % (other / gates, times[-1] / other)
+            print("%9d %10d" % (gates, size) + row)
 
 
 if __name__ == "__main__":

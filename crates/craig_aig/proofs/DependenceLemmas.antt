@@ -5,11 +5,11 @@ use Rattle.std.proofs.lemmas.Option.{slice_get-get_or}
 use Rattle.craig_spec.specs.Truth.{Assignment, variable_value}
 use Rattle.craig_aig.specs.Arenas.{AreOperands, IsArena}
 use Rattle.craig_aig.specs.Cones.{cone}
-use Rattle.craig_aig.specs.Edges.{Edge}
+use Rattle.craig_aig.specs.Edges.{Edge, plain_edge}
 use Rattle.craig_aig.specs.Values.{edge_value}
 use Rattle.craig_aig.specs.declared.node.Node.{Node}
 use Rattle.craig_aig.specs.declared.node.Node.TheVariants.{Constant, Input, Gate}
-use Rattle.craig_aig.proofs.FunctionLemmas.{cone-node, edge_value-node, placed_at, plain_edge}
+use Rattle.craig_aig.proofs.FunctionLemmas.{cone-node, edge_value-node, placed_at}
 
 module _ (nodes : List Node) (arena : IsArena nodes) (s t : Assignment) where
   -- the two assignments agree on what the edge reaches

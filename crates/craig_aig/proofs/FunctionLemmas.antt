@@ -6,16 +6,12 @@ use Rattle.std.proofs.Common.{subst}
 use Rattle.craig_spec.specs.Truth.{Assignment}
 use Rattle.craig_aig.specs.Arenas.{IsPlaced, IsArena}
 use Rattle.craig_aig.specs.Cones.{node_cone, cones, cone}
-use Rattle.craig_aig.specs.Edges.{Edge, negation}
+use Rattle.craig_aig.specs.Edges.{Edge, negation, plain_edge}
 use Rattle.craig_aig.specs.Growth.{Extends, KeepsEdge, KeepsEdges}
 use Rattle.craig_aig.specs.Values.{edge_value_in, node_value, values, edge_value}
 use Rattle.craig_aig.specs.declared.node.Node.{Node}
 use Rattle.craig_aig.specs.declared.node.Node.TheVariants.{Constant, Input, Gate}
 use Rattle.craig_aig.proofs.FromFrontLemmas.{get_or-from_front_append, get_or-from_front_take, get_or-from_front}
-
--- the edge of a node
-abbrev pub plain_edge : ℕ → Edge
-plain_edge place = record { place = place; negated = false }
 
 -- an edge has the value of its node, or the other one
 edge_value_in-equal : (v w : List Bool) (e : Edge) → get_or v e.place false ≡ get_or w e.place false → edge_value_in v e ≡ edge_value_in w e

@@ -1,9 +1,11 @@
-pub mod FromFrontLemmas
-pub mod FunctionLemmas
-pub mod ArenaLemmas
-pub mod ChoiceLemmas
-pub mod ConjunctionLemmas
-pub mod ShareLemmas
-pub mod TrueVariablesLemmas
-pub mod ValuesLemmas
+mod FromFrontLemmas
+mod FunctionLemmas
+mod ArenaLemmas
+mod ChoiceLemmas
+mod ConjunctionLemmas
+mod ConstantLemmas
+mod NodeLemmas
+mod ShareLemmas
+mod TrueVariablesLemmas
+mod ValuesLemmas
 mod DependenceLemmas

@@ -1,11 +1,13 @@
 -- A node that is asked for: where it stands, or added behind.
-use Rattle.std.proofs.Common.{◌≡◌, ◌≢◌, ℕ, zero, suc, ◌+◌, ◌<◌, false, List, [], ◌∷◌, ◌++◌, length, All, Contains, Some, slice_get, refl, sym, ap, ◌∙◌, subst, arith, add-one, length-append}
-use Rattle.std.specs.List.{HoldsAt}
-use Rattle.std.proofs.lemmas.List.{get_or_at}
-use Rattle.std.proofs.lemmas.Option.{slice_get-get_or}
+use Rattle.std.proofs.Common.{◌≡◌, ◌⊎◌, inl, inr, ℕ, zero, suc, ◌+◌, Bool, true, false, cond, List, [], ◌∷◌, ◌++◌, length, Contains, Some, slice_get, refl, sym, ap, ◌∙◌, subst, arith, add-one, true≢false}
+use Rattle.std.specs.Cmp.{IsEquivalence}
+use Rattle.std.specs.List.{list_any}
+use Rattle.std.proofs.lemmas.List.{append-nil}
+use Rattle.std.proofs.lemmas.Map.Views.{list_any-from_Contains, Contains-from_any}
+use Rattle.indexmap.specs.IndexSet.{insert_key}
 use Rattle.craig_aig.specs.Arenas.{IsPlaced, IsArena}
 use Rattle.craig_aig.specs.Edges.{Edge}
-use Rattle.craig_aig.specs.Growth.{IsShared}
+use Rattle.craig_aig.specs.Growth.{Extends, IsShared}
 use Rattle.craig_aig.specs.declared.node.Node.{Node}
 use Rattle.craig_aig.specs.declared.node.Node.TheVariants.{Constant}
 use Rattle.craig_aig.proofs.ArenaLemmas.{IsArena-push}
@@ -14,41 +16,55 @@ use Rattle.craig_aig.proofs.ArenaLemmas.{IsArena-push}
 not_constant : (k : ℕ) (node : Node) → IsPlaced (suc k) node → Constant ≡ node → ⊥
 not_constant k node h e = let p : suc k ≡ 0 = subst (IsPlaced (suc k)) (sym e) h in omega arith
 
-absent : (items : List Node) (node : Node) → All (λ n. n ≢ node) items → IsPlaced (length (Constant ∷ items)) node → Contains (Constant ∷ items) node → ⊥
+absent : (items : List Node) (node : Node) → (Contains items node → ⊥) → IsPlaced (length (Constant ∷ items)) node → Contains (Constant ∷ items) node → ⊥
 absent items node none here (zero, within, at) = not_constant (length items) node here at
-absent items node none here (suc k, within, at) = none k node (omega arith) at
+absent items node none here (suc k, within, at) = none (k, omega arith, at)
 
--- found at an index of the nodes after the constant
-pub IsShared-known : (old items : List Node) (node : Node) (i : ℕ) (e : Edge) → Constant ∷ items ≡ old → i < length items → HoldsAt (λ n. n ≡ node) items i → e ≡ record { place = i + 1; negated = false } → IsShared old node old e
-IsShared-known old items node i e view within found is =
-    let at : slice_get items i ≡ Some node = slice_get-get_or items i node within ∙ ap Some (found node) in
-    let there : slice_get (Constant ∷ items) (i + 1) ≡ Some node = rw add-one at in
-    let here : Contains (Constant ∷ items) node = (suc i, omega arith, found node) in
-    record {
-      known = λ _. refl;
-      added = λ no. absurd (no (subst (λ l. Contains l node) view here));
-      place = rw (is, ← view) there;
-      plain = ap (λ (f : Edge). f.negated) is;
-    }
+behind : (items : List Node) (node : Node) → Contains items node → Contains (Constant ∷ items) node
+behind items node (k, within, at) = (suc k, omega arith, at)
 
--- not found, so added
-pub IsShared-added : (old items more : List Node) (node : Node) (e : Edge) → Constant ∷ items ≡ old → All (λ n. n ≢ node) items → IsPlaced (length old) node →
-    more ≡ items ++ node ∷ [] → e ≡ record { place = length more; negated = false } → IsShared old node (Constant ∷ more) e
-IsShared-added old items more node e view none here added is =
-    let no : Contains (Constant ∷ items) node → ⊥ = absent items node none (subst (λ l. IsPlaced (length l) node) (sym view) here) in
-    let l : length (items ++ node ∷ []) ≡ length items + length (node ∷ []) = length-append items (node ∷ []) in
-    let n : length more ≡ suc (length items) = omega (arith, ap length added) in
-    let last : slice_get (Constant ∷ (items ++ node ∷ [])) (suc (length items)) ≡ Some node =
-    slice_get-get_or (items ++ node ∷ []) (length items) node (omega arith) ∙ ap Some (get_or_at items node [] node (length items) refl) in
-    record {
-      known = λ h. absurd (no (subst (λ l. Contains l node) (sym view) h));
-      added = λ _. ap (λ l. Constant ∷ l) added ∙ ap (λ l. l ++ node ∷ []) view;
-      place = rw (is, n, added) last;
-      plain = ap (λ (f : Edge). f.negated) is;
-    }
+-- the nodes after the constant stay where the node is one of them, and else it goes last
+abbrev pub IsInserted : List Node → Node → List Node → Type 0
+IsInserted items node more = (Contains items node × (more ≡ items)) ⊎ ((Contains items node → ⊥) × (more ≡ items ++ node ∷ []))
 
-pub IsArena-added : (old items more : List Node) (node : Node) → Constant ∷ items ≡ old → IsArena (Constant ∷ items) → All (λ n. n ≢ node) items → IsPlaced (length old) node →
-    more ≡ items ++ node ∷ [] → IsArena (Constant ∷ more)
-IsArena-added old items more node view h none here added =
+inserted-cases : (eq : Node → Node → Bool) → IsEquivalence eq → ((m n : Node) → eq m n ≡ true → m ≡ n) → (items : List Node) (node : Node) (found : Bool) → list_any (eq node) items ≡ found →
+    IsInserted items node (cond found items (items ++ node ∷ []))
+inserted-cases eq laws same items node true is = inl (Contains-from_any same node items is, refl)
+inserted-cases eq laws same items node false is = inr (λ here. true≢false (sym (list_any-from_Contains laws node items here) ∙ is), refl)
+
+-- so it is in a set of nodes, where equal nodes are the same
+pub IsInserted-insert_key : (eq : Node → Node → Bool) → IsEquivalence eq → ((m n : Node) → eq m n ≡ true → m ≡ n) → (items : List Node) (node : Node) (more : List Node) → more ≡ insert_key eq items node →
+    IsInserted items node more
+IsInserted-insert_key eq laws same items node more is = subst (IsInserted items node) (sym is) (inserted-cases eq laws same items node (list_any (eq node) items) refl)
+
+-- the node at the index is the one that was asked for
+pub IsShared-inserted : (old items more : List Node) (node : Node) (i : ℕ) (e : Edge) → Constant ∷ items ≡ old → IsPlaced (length old) node → IsInserted items node more →
+    slice_get more i ≡ Some node → e ≡ record { place = i + 1; negated = false } → IsShared old node (Constant ∷ more) e
+IsShared-inserted old items more node i e view here by at is =
+    let there : slice_get (Constant ∷ more) (i + 1) ≡ Some node = rw add-one at in
     let placed : IsPlaced (length (Constant ∷ items)) node = subst (λ l. IsPlaced (length l) node) (sym view) here in
-    rw added (IsArena-push (Constant ∷ items) node h placed (absent items node none placed))
+    record {
+      known = λ h.
+          let h : Contains (Constant ∷ items) node = subst (λ l. Contains l node) (sym view) h in
+          elim by [
+            | inl (_, same) ↦ ap (λ l. Constant ∷ l) same ∙ view
+            | inr (none, _) ↦ absurd (absent items node none placed h)
+          ];
+      added = λ no.
+          elim by [
+            | inl (found, _) ↦ absurd (no (subst (λ l. Contains l node) view (behind items node found)))
+            | inr (_, more_is) ↦ ap (λ l. Constant ∷ l) more_is ∙ ap (λ l. l ++ node ∷ []) view
+          ];
+      place = rw is there;
+      plain = ap (λ (f : Edge). f.negated) is;
+    }
+
+pub Extends-inserted : (old items more : List Node) (node : Node) → Constant ∷ items ≡ old → IsInserted items node more → Extends old (Constant ∷ more)
+Extends-inserted old items more node view (inl (_, same)) = ([], ap (λ l. Constant ∷ l) same ∙ view ∙ sym (append-nil old))
+Extends-inserted old items more node view (inr (_, more_is)) = (node ∷ [], ap (λ l. Constant ∷ l) more_is ∙ ap (λ l. l ++ node ∷ []) view)
+
+pub IsArena-inserted : (old items more : List Node) (node : Node) → Constant ∷ items ≡ old → IsArena (Constant ∷ items) → IsPlaced (length old) node → IsInserted items node more → IsArena (Constant ∷ more)
+IsArena-inserted old items more node view h here (inl (_, same)) = subst (λ l. IsArena (Constant ∷ l)) (sym same) h
+IsArena-inserted old items more node view h here (inr (none, more_is)) =
+    let placed : IsPlaced (length (Constant ∷ items)) node = subst (λ l. IsPlaced (length l) node) (sym view) here in
+    subst (λ l. IsArena (Constant ∷ l)) (sym more_is) (IsArena-push (Constant ∷ items) node h placed (absent items node none placed))

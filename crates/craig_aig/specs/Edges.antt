@@ -1,10 +1,14 @@
 -- Edges, and how they are packed into one number.
-use Rattle.std.specs.Prelude.{ℕ, ◌+◌, ◌*◌, ◌/◌, ◌%◌, Bool, not, nat_eq, if◌then◌else◌}
+use Rattle.std.specs.Prelude.{ℕ, ◌+◌, ◌*◌, ◌/◌, ◌%◌, Bool, false, not, nat_eq, if◌then◌else◌}
 
 -- the node at the place, or its negation
 pub record Edge : Type 0 where
   pub place : ℕ
   pub negated : Bool
+
+-- the edge of a node
+abbrev pub plain_edge : ℕ → Edge
+plain_edge place = record { place = place; negated = false }
 
 -- the edge that is true exactly where this one is false
 abbrev pub negation : Edge → Edge

@@ -5,4 +5,5 @@ pub mod Edges
 pub mod EdgeCodes
 pub mod FromFront
 pub mod Growth
+pub mod Operands
 pub mod Values

@@ -8,10 +8,10 @@ ghost use Rattle.craig_aig.specs.Growth.{Extends, KeepsEdges, IsShared};
 ghost use Rattle.craig_aig.specs.Values.{edge_value, true_variables};
 
 use crate::conjunction::{fold, make_gate};
-use crate::search::find;
 use crate::value::{value_in, values_of};
 use crate::{Edge, Level, Node};
 use craig_base::Var;
+use indexmap::IndexSet;
 use std::alloc::{AllocError, Global};
 use std::marker::Model;
 
@@ -22,7 +22,7 @@ use std::marker::Model;
 #[derive(Debug, Drop)]
 pub struct Aig {
     // the nodes from place 1 on, so that an arena of the constant alone takes no memory
-    nodes: Vec<Node>,
+    nodes: IndexSet<Node>,
 }
 
 impl Model for Aig {
@@ -33,9 +33,9 @@ impl Model for Aig {
 
     ghost Value = { List Node };
 
-    ghost view = { λ a. Constant ∷ a.nodes.items };
+    ghost view = { λ a. Constant ∷ a.nodes.keys };
 
-    ghost invariant = { λ a. IsArena (Constant ∷ a.nodes.items) };
+    ghost invariant = { λ a. IsArena (Constant ∷ a.nodes.keys) };
 }
 
 impl Aig {
@@ -45,7 +45,7 @@ impl Aig {
         ensures is_arena { IsArena result }
     {
         Aig {
-            nodes: Vec::new(alloc),
+            nodes: IndexSet::new(alloc),
         }
     }
 
@@ -84,7 +84,7 @@ impl Aig {
     {
         match edge.place() {
             0 => Node::Constant,
-            place => self.nodes[place - 1],
+            place => self.nodes.as_slice()[place - 1],
         }
     }
 
@@ -98,11 +98,10 @@ impl Aig {
         ensures is_arena { IsArena self.new }
         ensures unchanged { OnErr result (self.new ≡ self.old) }
     {
-        if let Some(index) = find(self.nodes.as_slice(), &node) {
-            return Ok(Edge::new(index + 1, false));
-        }
-        self.nodes.push(node)?;
-        Ok(Edge::new(self.nodes.len(), false))
+        let (index, _) = self.nodes.insert_full(node)?;
+        // There are fewer than 2^63 nodes, so that the place fits.
+        let _ = self.nodes.len();
+        Ok(Edge::new(index + 1, false))
     }
 
     /// The edge of the input of a dense variable: the one that it has, or a new last node.
@@ -212,7 +211,7 @@ impl Aig {
         ensures { IfOk result (λ v. v ≡ edge_value (true_variables assignment.now) self.now edge) }
     {
         let alloc = *self.nodes.allocator();
-        let values = values_of(alloc, &self.nodes[..edge.place()], assignment)?;
+        let values = values_of(alloc, &self.nodes.as_slice()[..edge.place()], assignment)?;
         Ok(value_in(values.as_slice(), edge))
     }
 }

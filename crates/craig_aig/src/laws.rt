@@ -4,6 +4,7 @@ ghost use Rattle.craig_spec.specs.Truth.{Assignment, variable_value};
 ghost use Rattle.craig_aig.specs.Arenas.{IsArena};
 ghost use Rattle.craig_aig.specs.Cones.{cone};
 ghost use Rattle.craig_aig.specs.Edges.{Edge};
+ghost use Rattle.craig_aig.specs.Operands.{ConesFromOperands, ValuesFromBits, ValuesFromOperands};
 ghost use Rattle.craig_aig.specs.Values.{edge_value};
 ghost use Rattle.craig_aig.specs.declared.node.Node.{Node};
 
@@ -11,3 +12,30 @@ ghost use Rattle.craig_aig.specs.declared.node.Node.{Node};
 pub fn values_by_cones()
     ensures { (nodes : List Node) (e : Edge) (s t : Assignment) → IsArena nodes → e.place < length nodes → ((x : ℕ) → Contains (cone nodes e) x → variable_value s x ≡ variable_value t x) → edge_value s nodes e ≡ edge_value t nodes e }
 {}
+
+/// A node has the value and the cone that those of its operands give it: a gate is the conjunction of its operands and
+/// reaches what they reach, an input is its variable and reaches that alone, and the constant is false and reaches
+/// nothing.
+pub fn nodes_by_operands()
+    ensures value { ValuesFromOperands }
+    ensures cone { ConesFromOperands }
+{}
+
+/// The assignment of a list of bits gives each variable the bit at its number, and false past the last bit.
+pub fn bits_are_an_assignment()
+    ensures { ValuesFromBits }
+{}
+
+#[cfg(test)]
+mod tests {
+    use super::*;
+    use std::test::Fail;
+
+    #[test]
+    fn the_laws_are_called(_rt: HostRuntime) -> Result<(), Fail> {
+        values_by_cones();
+        nodes_by_operands();
+        bits_are_an_assignment();
+        Ok(())
+    }
+}

@@ -3,20 +3,21 @@
 //! After Kuehlmann, Paruthi, Krohm and Ganai, TCAD 2002. Nodes stand in one arena, each above its operands. An
 //! edge names a node or its negation, and keeps its function when the arena grows, and when it goes back to a
 //! level above the node. Conjunctions are folded where an operand decides them, and an equal gate is found and
-//! not made again, by a walk over the nodes. Two edges that differ may still be of one function.
+//! not made again, by the hash of its operands. Two edges that differ may still be of one function.
 #![tactic(auto)]
 
 mod arena;
 mod conjunction;
+mod constants;
 mod edge;
 mod laws;
 mod level;
 mod node;
-mod search;
 mod value;
 
 pub use arena::Aig;
+pub use constants::no_input_is_constant;
 pub use edge::Edge;
-pub use laws::values_by_cones;
+pub use laws::{bits_are_an_assignment, nodes_by_operands, values_by_cones};
 pub use level::Level;
 pub use node::Node;

@@ -76,7 +76,7 @@ gates_grow table k (suc d) within =
     let more : length (filter_map gate_in (take ((k + d) + 1) table)) ≡ length (filter_map gate_in (take (k + d) table)) + length (cons_option (gate_in (get_or table (k + d) None)) []) = ap length (filter_map-more gate_in table (k + d) None (omega arith)) ∙ length-append (filter_map gate_in (take (k + d) table)) (cons_option (gate_in (get_or table (k + d) None)) []) in
     rw e (omega (arith, before, more))
 
-gate_counts : (table : List (Option Node)) (j k : ℕ) (l r : Edge) → j < k → k ≤ length table → at table j ≡ Some (Gate l r) → length (filter_map gate_in (take j table)) < length (filter_map gate_in (take k table))
+pub gate_counts : (table : List (Option Node)) (j k : ℕ) (l r : Edge) → j < k → k ≤ length table → at table j ≡ Some (Gate l r) → length (filter_map gate_in (take j table)) < length (filter_map gate_in (take k table))
 gate_counts table j k l r below within is =
     let e : (j + 1) + (k - (j + 1)) ≡ k = omega arith in
     let grown : length (filter_map gate_in (take (j + 1) table)) ≤ length (filter_map gate_in (take ((j + 1) + (k - (j + 1))) table)) = gates_grow table (j + 1) (k - (j + 1)) (omega (arith, e)) in

@@ -1,5 +1,5 @@
 -- The outputs of a layout have the values and the cones of their edges.
-use Rattle.std.proofs.Common.{◌≡◌, inl, inr, ℕ, suc, ◌+◌, ◌*◌, ◌<◌, ◌/◌, ◌%◌, Bool, true, false, cond, ◌&&◌, nat_lt, eqb, List, [], ◌∷◌, ◌++◌, length, get_or, map, Option, Some, None, All, Contains, slice_get, refl, sym, ap, ◌∙◌, subst, arith}
+use Rattle.std.proofs.Common.{◌≡◌, inl, inr, ℕ, suc, ◌+◌, ◌*◌, ◌<◌, ◌/◌, ◌%◌, Bool, true, false, cond, ◌&&◌, nat_lt, eqb, List, [], ◌∷◌, ◌++◌, length, get_or, take, map, Option, Some, None, All, Contains, slice_get, refl, sym, ap, ◌∙◌, subst, arith}
 use Rattle.std.specs.Option.{is_some}
 use Rattle.std.specs.List.{filter_map}
 use Rattle.std.proofs.lemmas.Bool.Decides.{nat_tests}
@@ -12,17 +12,16 @@ use Rattle.craig_spec.specs.Truth.{Assignment, variable_value}
 use Rattle.craig_aig.specs.Arenas.{IsArena, AreOperands}
 use Rattle.craig_aig.specs.Edges.{Edge}
 use Rattle.craig_aig.specs.Cones.{cone, cones}
+use Rattle.craig_aig.specs.Operands.{ConesFromOperands, ValuesFromBits, ValuesFromOperands}
 use Rattle.craig_aig.specs.Values.{edge_value_in, values}
 use Rattle.craig_aig.specs.declared.node.Node.{Node}
 use Rattle.craig_aig.specs.declared.node.Node.TheVariants.{Constant, Input, Gate}
-use Rattle.craig_aig.proofs.FunctionLemmas.{edge_value-node, cone-node}
-use Rattle.craig_aig.proofs.TrueVariablesLemmas.{variable_value-true_variables}
 use Rattle.craig_aiger.specs.declared.out_name.OutName.{OutName}
-use Rattle.craig_aiger.specs.Layouts.{Layout, circuit_of, at, input_in, gate_in, gate_of, ordered, literal_of, dense_assignment, IsLayout, HasFunctions}
+use Rattle.craig_aiger.specs.Layouts.{Layout, circuit_of, at, input_in, gate_in, gate_of, ordered, literal_of, dense_assignment, IsLayout, IsNumber, HasFunctions}
 use Rattle.craig_aiger.proofs.NeededLemmas.{operands_at, edge_at, place_at}
 use Rattle.craig_aiger.proofs.TableLemmas.{map_at}
 use Rattle.craig_aiger.proofs.UsedLemmas.{AreUsed-layout}
-use Rattle.craig_aiger.proofs.CircuitLemmas.{agrees}
+use Rattle.craig_aiger.proofs.CircuitLemmas.{agrees, some_node}
 
 same_number : (x v : ℕ) → Some x ≡ Some v → x ≡ v
 same_number x v e = cc
@@ -31,7 +30,7 @@ no_number : (v : ℕ) → None ≡ Some v → ⊥
 no_number v e = cc
 
 -- the gate of the circuit
-abbrev to_circuit : (ℕ × ℕ) → circuit.Gate
+abbrev pub to_circuit : (ℕ × ℕ) → circuit.Gate
 to_circuit g = record { left = g.0; right = g.1 }
 
 abbrev gate_for : List ℕ → (Edge × Edge) → circuit.Gate
@@ -47,7 +46,7 @@ and_comm true false = refl
 and_comm false true = refl
 and_comm false false = refl
 
-half : (n : ℕ) (b : Bool) → (2 * n + cond b 1 0) / 2 ≡ n
+pub half : (n : ℕ) (b : Bool) → (2 * n + cond b 1 0) / 2 ≡ n
 half n true = omega arith
 half n false = omega arith
 
@@ -115,7 +114,7 @@ module _ (nodes : List Node) (names : List ℕ) (outputs : List (OutName × Edge
   gates_is : map to_circuit layout.gates ≡ map (gate_for h.numbers) (filter_map gate_in h.table)
   gates_is = ap (map to_circuit) h.gates_are ∙ map_twice h.numbers (filter_map gate_in h.table)
 
-  module _ (s : Assignment) where
+  module _ (values_from_bits : ValuesFromBits) (values_from_operands : ValuesFromOperands) (s : Assignment) where
     abbrev W : List Bool
     W = values (dense_assignment names s) nodes
 
@@ -125,10 +124,10 @@ module _ (nodes : List Node) (names : List ℕ) (outputs : List (OutName × Edge
     dense : (x : ℕ) → x < length names → variable_value (dense_assignment names s) x ≡ variable_value s (get_or names x 0)
     dense x within =
         let inside : x < length (map (variable_value s) names) = omega (arith, length-map names (variable_value s)) in
-        variable_value-true_variables (map (variable_value s) names) x ∙ get_or_default (map (variable_value s) names) x false (variable_value s 0) inside ∙ get_or-map (variable_value s) names x 0
+        values_from_bits (map (variable_value s) names) x ∙ get_or_default (map (variable_value s) names) x false (variable_value s 0) inside ∙ get_or-map (variable_value s) names x 0
 
     value_constant : (k : ℕ) → at h.table k ≡ Some Constant → get_or first 0 false ≡ get_or W k false
-    value_constant k is = sym (edge_value-node (dense_assignment names s) nodes k Constant arena (at_node k Constant is))
+    value_constant k is = sym (values_from_operands (dense_assignment names s) nodes k Constant arena (at_node k Constant is))
 
     value_input : (k i x : ℕ) (n : Node) → at h.table k ≡ Some n → input_in (Some n) ≡ Some x → slice_get layout.inputs i ≡ Some (get_or names x 0) → x < length names → get_or first (1 + i) false ≡ get_or W k false
     value_input k i x Constant is e place within = absurd (no_number x e)
@@ -138,7 +137,7 @@ module _ (nodes : List Node) (names : List ℕ) (outputs : List (OutName × Edge
         let inside : i < length layout.inputs = slice_get_within layout.inputs i (get_or names x 0) place in
         let inside' : i < length (map (variable_value s) layout.inputs) = omega (arith, length-map layout.inputs (variable_value s)) in
         let left : get_or (map (variable_value s) layout.inputs) i false ≡ variable_value s (get_or names x 0) = get_or_default (map (variable_value s) layout.inputs) i false (variable_value s 0) inside' ∙ get_or-map (variable_value s) layout.inputs i 0 ∙ ap (variable_value s) (get_or_from_slice_get layout.inputs i (get_or names x 0) 0 place) in
-        let right : get_or W k false ≡ variable_value (dense_assignment names s) v.0 = edge_value-node (dense_assignment names s) nodes k (Input v) arena (at_node k (Input v) is) in
+        let right : get_or W k false ≡ variable_value (dense_assignment names s) v.0 = values_from_operands (dense_assignment names s) nodes k (Input v) arena (at_node k (Input v) is) in
         let e : 1 + i ≡ suc i = omega arith in
         rw e (left ∙ sym (dense x within) ∙ ap (variable_value (dense_assignment names s)) (sym same) ∙ sym right)
 
@@ -147,47 +146,48 @@ module _ (nodes : List Node) (names : List ℕ) (outputs : List (OutName × Edge
         value_ordered before (literal_of h.numbers l) (literal_of h.numbers r) (nat_lt (literal_of h.numbers l) (literal_of h.numbers r)) refl
         ∙ ap (λ b. b && circuit.literal_value_in before (literal_of h.numbers r)) (value_literal before W h.numbers l left)
         ∙ ap (λ b. edge_value_in W l && b) (value_literal before W h.numbers r right)
-        ∙ sym (edge_value-node (dense_assignment names s) nodes k (Gate l r) arena (at_node k (Gate l r) is))
+        ∙ sym (values_from_operands (dense_assignment names s) nodes k (Gate l r) arena (at_node k (Gate l r) is))
 
     value_agrees : (k : ℕ) → k < length h.table → is_some (at h.table k) ≡ true → get_or (circuit.circuit_values s layout.inputs (map to_circuit layout.gates)) (get_or h.numbers k 0) false ≡ get_or W k false
     value_agrees k within some =
         ap (λ gs. get_or (circuit.circuit_values s layout.inputs gs) (get_or h.numbers k 0) false) gates_is
         ∙ agrees (λ (a b : Bool). a ≡ b) circuit.gate_value first false W false (gate_for h.numbers) names layout.inputs h.table h.numbers h.numbering (omega (arith, length-map layout.inputs (variable_value s))) kept value_constant value_input value_gate k within some
 
-  abbrev first_cones : List (List ℕ)
-  first_cones = [] ∷ map (λ x. x ∷ []) layout.inputs
+  module _ (cones_from_operands : ConesFromOperands) where
+    abbrev first_cones : List (List ℕ)
+    first_cones = [] ∷ map (λ x. x ∷ []) layout.inputs
 
-  cone_constant : (k : ℕ) → at h.table k ≡ Some Constant → Same names (get_or first_cones 0 []) (get_or (cones nodes) k [])
-  cone_constant k is =
-      let e : get_or (cones nodes) k [] ≡ [] = cone-node nodes k Constant arena (at_node k Constant is) in
-      subst (λ u. Same names [] u) (sym e) (λ x. (λ m. m, λ m. m))
+    cone_constant : (k : ℕ) → at h.table k ≡ Some Constant → Same names (get_or first_cones 0 []) (get_or (cones nodes) k [])
+    cone_constant k is =
+        let e : get_or (cones nodes) k [] ≡ [] = cones_from_operands nodes k Constant arena (at_node k Constant is) in
+        subst (λ u. Same names [] u) (sym e) (λ x. (λ m. m, λ m. m))
 
-  cone_input : (k i x : ℕ) (n : Node) → at h.table k ≡ Some n → input_in (Some n) ≡ Some x → slice_get layout.inputs i ≡ Some (get_or names x 0) → x < length names → Same names (get_or first_cones (1 + i) []) (get_or (cones nodes) k [])
-  cone_input k i x Constant is e place within = absurd (no_number x e)
-  cone_input k i x (Gate l r) is e place within = absurd (no_number x e)
-  cone_input k i x (Input v) is e place within =
-      let same : v.0 ≡ x = same_number v.0 x e in
-      let inside : i < length layout.inputs = slice_get_within layout.inputs i (get_or names x 0) place in
-      let inside' : i < length (map (λ y. y ∷ []) layout.inputs) = omega (arith, length-map layout.inputs (λ y. y ∷ [])) in
-      let left : get_or (map (λ y. y ∷ []) layout.inputs) i [] ≡ get_or names x 0 ∷ [] = get_or_default (map (λ y. y ∷ []) layout.inputs) i [] (0 ∷ []) inside' ∙ get_or-map (λ y. y ∷ []) layout.inputs i 0 ∙ ap (λ y. y ∷ []) (get_or_from_slice_get layout.inputs i (get_or names x 0) 0 place) in
-      let right : get_or (cones nodes) k [] ≡ x ∷ [] = cone-node nodes k (Input v) arena (at_node k (Input v) is) ∙ ap (λ y. y ∷ []) same in
-      let e1 : 1 + i ≡ suc i = omega arith in
-      rw e1 (subst (λ a. Same names a (get_or (cones nodes) k [])) (sym left) (subst (λ u. Same names (get_or names x 0 ∷ []) u) (sym right) (λ y. (λ m. m, λ m. m))))
+    cone_input : (k i x : ℕ) (n : Node) → at h.table k ≡ Some n → input_in (Some n) ≡ Some x → slice_get layout.inputs i ≡ Some (get_or names x 0) → x < length names → Same names (get_or first_cones (1 + i) []) (get_or (cones nodes) k [])
+    cone_input k i x Constant is e place within = absurd (no_number x e)
+    cone_input k i x (Gate l r) is e place within = absurd (no_number x e)
+    cone_input k i x (Input v) is e place within =
+        let same : v.0 ≡ x = same_number v.0 x e in
+        let inside : i < length layout.inputs = slice_get_within layout.inputs i (get_or names x 0) place in
+        let inside' : i < length (map (λ y. y ∷ []) layout.inputs) = omega (arith, length-map layout.inputs (λ y. y ∷ [])) in
+        let left : get_or (map (λ y. y ∷ []) layout.inputs) i [] ≡ get_or names x 0 ∷ [] = get_or_default (map (λ y. y ∷ []) layout.inputs) i [] (0 ∷ []) inside' ∙ get_or-map (λ y. y ∷ []) layout.inputs i 0 ∙ ap (λ y. y ∷ []) (get_or_from_slice_get layout.inputs i (get_or names x 0) 0 place) in
+        let right : get_or (cones nodes) k [] ≡ x ∷ [] = cones_from_operands nodes k (Input v) arena (at_node k (Input v) is) ∙ ap (λ y. y ∷ []) same in
+        let e1 : 1 + i ≡ suc i = omega arith in
+        rw e1 (subst (λ a. Same names a (get_or (cones nodes) k [])) (sym left) (subst (λ u. Same names (get_or names x 0 ∷ []) u) (sym right) (λ y. (λ m. m, λ m. m))))
 
-  cone_gate : (k : ℕ) (l r : Edge) (before : List (List ℕ)) → at h.table k ≡ Some (Gate l r) → Same names (get_or before (get_or h.numbers l.place 0) []) (get_or (cones nodes) l.place []) → Same names (get_or before (get_or h.numbers r.place 0) []) (get_or (cones nodes) r.place []) → Same names (circuit.gate_cone before (gate_for h.numbers (l, r))) (get_or (cones nodes) k [])
-  cone_gate k l r before is left right =
-      let a : get_or before (get_or h.numbers l.place 0) [] ≡ get_or before (literal_of h.numbers l / 2) [] = ap (λ i. get_or before i []) (sym (half (get_or h.numbers l.place 0) l.negated)) in
-      let b : get_or before (get_or h.numbers r.place 0) [] ≡ get_or before (literal_of h.numbers r / 2) [] = ap (λ i. get_or before i []) (sym (half (get_or h.numbers r.place 0) r.negated)) in
-      let e : get_or (cones nodes) k [] ≡ cone nodes l ++ cone nodes r = cone-node nodes k (Gate l r) arena (at_node k (Gate l r) is) in
-      let joined : Same names (get_or before (literal_of h.numbers l / 2) [] ++ get_or before (literal_of h.numbers r / 2) []) (cone nodes l ++ cone nodes r) =
-      same_join names (get_or before (literal_of h.numbers l / 2) []) (get_or before (literal_of h.numbers r / 2) []) (cone nodes l) (cone nodes r) (subst (λ c. Same names c (cone nodes l)) a left) (subst (λ c. Same names c (cone nodes r)) b right) in
-      subst (λ u. Same names (circuit.gate_cone before (gate_for h.numbers (l, r))) u) (sym e)
-      (cone_ordered names before (literal_of h.numbers l) (literal_of h.numbers r) (cone nodes l ++ cone nodes r) (nat_lt (literal_of h.numbers l) (literal_of h.numbers r)) refl joined)
+    cone_gate : (k : ℕ) (l r : Edge) (before : List (List ℕ)) → at h.table k ≡ Some (Gate l r) → Same names (get_or before (get_or h.numbers l.place 0) []) (get_or (cones nodes) l.place []) → Same names (get_or before (get_or h.numbers r.place 0) []) (get_or (cones nodes) r.place []) → Same names (circuit.gate_cone before (gate_for h.numbers (l, r))) (get_or (cones nodes) k [])
+    cone_gate k l r before is left right =
+        let a : get_or before (get_or h.numbers l.place 0) [] ≡ get_or before (literal_of h.numbers l / 2) [] = ap (λ i. get_or before i []) (sym (half (get_or h.numbers l.place 0) l.negated)) in
+        let b : get_or before (get_or h.numbers r.place 0) [] ≡ get_or before (literal_of h.numbers r / 2) [] = ap (λ i. get_or before i []) (sym (half (get_or h.numbers r.place 0) r.negated)) in
+        let e : get_or (cones nodes) k [] ≡ cone nodes l ++ cone nodes r = cones_from_operands nodes k (Gate l r) arena (at_node k (Gate l r) is) in
+        let joined : Same names (get_or before (literal_of h.numbers l / 2) [] ++ get_or before (literal_of h.numbers r / 2) []) (cone nodes l ++ cone nodes r) =
+        same_join names (get_or before (literal_of h.numbers l / 2) []) (get_or before (literal_of h.numbers r / 2) []) (cone nodes l) (cone nodes r) (subst (λ c. Same names c (cone nodes l)) a left) (subst (λ c. Same names c (cone nodes r)) b right) in
+        subst (λ u. Same names (circuit.gate_cone before (gate_for h.numbers (l, r))) u) (sym e)
+        (cone_ordered names before (literal_of h.numbers l) (literal_of h.numbers r) (cone nodes l ++ cone nodes r) (nat_lt (literal_of h.numbers l) (literal_of h.numbers r)) refl joined)
 
-  cone_agrees : (k : ℕ) → k < length h.table → is_some (at h.table k) ≡ true → Same names (get_or (circuit.circuit_cones layout.inputs (map to_circuit layout.gates)) (get_or h.numbers k 0) []) (get_or (cones nodes) k [])
-  cone_agrees k within some =
-      subst (λ gs. Same names (get_or (circuit.circuit_cones layout.inputs gs) (get_or h.numbers k 0) []) (get_or (cones nodes) k [])) (sym gates_is)
-      (agrees (Same names) circuit.gate_cone first_cones [] (cones nodes) [] (gate_for h.numbers) names layout.inputs h.table h.numbers h.numbering (omega (arith, length-map layout.inputs (λ y. y ∷ []))) kept cone_constant cone_input cone_gate k within some)
+    cone_agrees : (k : ℕ) → k < length h.table → is_some (at h.table k) ≡ true → Same names (get_or (circuit.circuit_cones layout.inputs (map to_circuit layout.gates)) (get_or h.numbers k 0) []) (get_or (cones nodes) k [])
+    cone_agrees k within some =
+        subst (λ gs. Same names (get_or (circuit.circuit_cones layout.inputs gs) (get_or h.numbers k 0) []) (get_or (cones nodes) k [])) (sym gates_is)
+        (agrees (Same names) circuit.gate_cone first_cones [] (cones nodes) [] (gate_for h.numbers) names layout.inputs h.table h.numbers h.numbering (omega (arith, length-map layout.inputs (λ y. y ∷ []))) kept cone_constant cone_input cone_gate k within some)
 
   -- the edge of an output is needed
   pub output_needed : (j : ℕ) (o : OutName × Edge) → All (λ p. p.1.place < length nodes) outputs → slice_get outputs j ≡ Some o → (o.1.place < length h.table) × (is_some (at h.table o.1.place) ≡ true)
@@ -202,18 +202,32 @@ module _ (nodes : List Node) (names : List ℕ) (outputs : List (OutName × Edge
   literal_is : (j : ℕ) (o : OutName × Edge) (l : OutName × ℕ) → slice_get outputs j ≡ Some o → slice_get layout.outputs j ≡ Some l → l.1 ≡ literal_of h.numbers o.1
   literal_is j o l at_j laid = ap (λ (p : OutName × ℕ). p.1) (one_output l (o.0, literal_of h.numbers o.1) (sym laid ∙ ap (λ ls. slice_get ls j) h.outputs_are ∙ map_at (λ p. (p.0, literal_of h.numbers p.1)) outputs j o at_j))
 
-  output_cones : All (λ p. p.1.place < length nodes) outputs → (j : ℕ) (o : OutName × Edge) (l : OutName × ℕ) (x : ℕ) → slice_get outputs j ≡ Some o → slice_get layout.outputs j ≡ Some l → (Contains (circuit.circuit_cone (circuit_of layout) l.1) x → Contains (map (λ k. get_or names k 0) (cone nodes o.1)) x) × (Contains (map (λ k. get_or names k 0) (cone nodes o.1)) x → Contains (circuit.circuit_cone (circuit_of layout) l.1) x)
-  output_cones within j o l x at_j laid =
+  output_cones : ConesFromOperands → All (λ p. p.1.place < length nodes) outputs → (j : ℕ) (o : OutName × Edge) (l : OutName × ℕ) (x : ℕ) → slice_get outputs j ≡ Some o → slice_get layout.outputs j ≡ Some l → (Contains (circuit.circuit_cone (circuit_of layout) l.1) x → Contains (map (λ k. get_or names k 0) (cone nodes o.1)) x) × (Contains (map (λ k. get_or names k 0) (cone nodes o.1)) x → Contains (circuit.circuit_cone (circuit_of layout) l.1) x)
+  output_cones from_operands within j o l x at_j laid =
       let n = output_needed j o within at_j in
       let e : l.1 / 2 ≡ get_or h.numbers o.1.place 0 = ap (λ z. z / 2) (literal_is j o l at_j laid) ∙ half (get_or h.numbers o.1.place 0) o.1.negated in
-      subst (λ i. Same names (get_or (circuit.circuit_cones layout.inputs (map to_circuit layout.gates)) i []) (cone nodes o.1)) (sym e) (cone_agrees o.1.place n.0 n.1) x
+      subst (λ i. Same names (get_or (circuit.circuit_cones layout.inputs (map to_circuit layout.gates)) i []) (cone nodes o.1)) (sym e) (cone_agrees from_operands o.1.place n.0 n.1) x
 
-  pub HasFunctions-layout : All (λ p. p.1.place < length nodes) outputs → HasFunctions nodes names outputs layout
-  HasFunctions-layout within = record {
+  constant_number : (k : ℕ) (n : Node) → at h.table k ≡ Some n → k ≡ 0 → get_or h.numbers k 0 ≡ 0
+  constant_number k n is e =
+      let there : slice_get nodes 0 ≡ Some n = ap (slice_get nodes) (sym e) ∙ at_node k n is in
+      let constant : at h.table k ≡ Some Constant = is ∙ sym there ∙ arena.first in
+      let within : k < length h.table = omega (arith, h.needed.lengths, slice_get_within nodes k n (at_node k n is)) in
+      subst (λ o. IsNumber names layout.inputs (take k h.table) o (get_or h.numbers k 0)) constant (h.numbering.each k within)
+
+  constant_literal : All (λ p. p.1.place < length nodes) outputs → (j : ℕ) (o : OutName × Edge) (l : OutName × ℕ) → slice_get outputs j ≡ Some o → slice_get layout.outputs j ≡ Some l → o.1.place ≡ 0 → l.1 ≡ cond o.1.negated 1 0
+  constant_literal within j o l at_j laid e =
+      let n = output_needed j o within at_j in
+      let m = some_node (at h.table o.1.place) n.1 in
+      literal_is j o l at_j laid ∙ omega (arith, constant_number o.1.place m.0 m.1 e)
+
+  pub HasFunctions-layout : ValuesFromBits → ValuesFromOperands → ConesFromOperands → All (λ p. p.1.place < length nodes) outputs → HasFunctions nodes names outputs layout
+  HasFunctions-layout values_from_bits values_from_operands cones_from_operands within = record {
     values = λ s j o l at_j laid.
         let n = output_needed j o within at_j in
         ap (circuit.circuit_value s (circuit_of layout)) (literal_is j o l at_j laid)
-        ∙ value_literal (circuit.circuit_values s layout.inputs (map to_circuit layout.gates)) (values (dense_assignment names s) nodes) h.numbers o.1 (value_agrees s o.1.place n.0 n.1);
-    cones = output_cones within;
-    used = AreUsed-layout nodes names outputs layout h (output_cones within) arena;
+        ∙ value_literal (circuit.circuit_values s layout.inputs (map to_circuit layout.gates)) (values (dense_assignment names s) nodes) h.numbers o.1 (value_agrees values_from_bits values_from_operands s o.1.place n.0 n.1);
+    cones = output_cones cones_from_operands within;
+    used = AreUsed-layout nodes names outputs layout h (output_cones cones_from_operands within) cones_from_operands arena;
+    constants = constant_literal within;
   }

@@ -17,6 +17,7 @@ mod TextWrittenLemmas
 mod TextFileLemmas
 mod RoundTripLemmas
 mod UsedLemmas
+mod StrictLemmas
 mod CutLemmas
 mod FaultLemmas
 mod NumberLemmas

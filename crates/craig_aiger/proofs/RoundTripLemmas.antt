@@ -1,5 +1,5 @@
 -- The text of a layout is read as a circuit with the layout's outputs.
-use Rattle.std.proofs.Common.{◌≡◌, ℕ, zero, suc, ◌+◌, ◌*◌, ◌^◌, ◌<◌, ◌≤◌, ◌/◌, true, false, eqb, nat_le, List, [], ◌∷◌, length, get_or, take, drop, map, All, AllPairs, Option, Some, None, Ok, codes, slice_get, refl, sym, ap, ◌∙◌, subst, arith}
+use Rattle.std.proofs.Common.{◌≡◌, ℕ, zero, suc, ◌+◌, ◌*◌, ◌^◌, ◌<◌, ◌≤◌, ◌/◌, true, false, eqb, nat_le, nat_lt, List, [], ◌∷◌, length, get_or, take, drop, map, All, AllPairs, Option, Some, None, Ok, codes, slice_get, refl, sym, ap, ◌∙◌, subst, arith}
 use Rattle.std.specs.Bool.{if◌then◌else◌}
 use Rattle.std.specs.Fmt.{decimal}
 use Rattle.std.specs.List.{list_any, range_with_len}
@@ -27,6 +27,7 @@ use Rattle.craig_aiger.proofs.CircuitMovedLemmas.{InOrder-moved, IsOrder, IsOrde
 use Rattle.craig_aiger.proofs.TextSectionLemmas.{bytes_of, counts, literals_of, operands_of}
 use Rattle.craig_aiger.proofs.TextSymbolLemmas.{input_name, layout_symbols, output_name}
 use Rattle.craig_aiger.proofs.TextWordLemmas.{bytes-lines_of, five_numbers, variable_in-decimal}
+use Rattle.craig_aiger.proofs.TableLemmas.{map_at}
 use Rattle.craig_aiger.proofs.WritableLemmas.{mapped}
 use Rattle.craig_aiger.proofs.TextWrittenLemmas.{Said, said, written_of}
 
@@ -101,6 +102,10 @@ all_of_each P (x ∷ xs) h (suc k) d within = all_of_each P xs h.1 k d (omega ar
 each_of_all : {X : Type 0} (P : X → Type 0) (xs : List X) → All P xs → Each P xs
 each_of_all P xs h = each_of P xs (λ i x e. subst P (get_or_from_slice_get xs i x x e) (h i x (slice_get_within xs i x e)))
 
+-- the literals of the constant and the inputs stay
+moved_constant : (first : ℕ) (order : List ℕ) (n : ℕ) → n / 2 < first → moved first order n ≡ n
+moved_constant first order n below = let e : nat_lt (n / 2) first ≡ true = grind (arith, nat_tests, below) in rw e refl
+
 module _ (l : Layout) (h : IsWritable l) where
   abbrev first : ℕ
   first = 1 + length l.inputs
@@ -155,6 +160,8 @@ module _ (l : Layout) (h : IsWritable l) where
         ∙ map_same (λ (o : OutName × ℕ). circuit_cone circuit (moved first order o.1)) (λ (o : OutName × ℕ). circuit_cone (circuit_of l) o.1) l.outputs
         (each_then (λ (o : OutName × ℕ). o.1 / 2 < first + length l.gates) (λ (o : OutName × ℕ). circuit_cone circuit (moved first order o.1) ≡ circuit_cone (circuit_of l) o.1) l.outputs
         (λ o b. cone_moved first gates order in_order is_order ([] ∷ map (λ (x : ℕ). x ∷ []) l.inputs) o.1 (omega (arith, length-map l.inputs (λ (x : ℕ). x ∷ []))) (omega (arith, b, gate_count))) literals_within);
+    constants = λ j o at_j small.
+        (to_output (moved first order) o, map_at (to_output (moved first order)) l.outputs j o at_j, moved_constant first order o.1 (omega (arith, small)));
   }
 
   abbrev symbols : List Symbol
@@ -168,7 +175,7 @@ module _ (l : Layout) (h : IsWritable l) where
       let count : length inputs ≡ length l.inputs = ap length inputs_are ∙ length-range_with_len 1 (length l.inputs) in
       let named : input_variables (names_of symbols 105 (length inputs)) ≡ Some l.inputs =
       ap (λ n. input_variables (names_of symbols 105 n)) count
-      ∙ inputs_read symbols l.inputs (λ i x e. input_name l.inputs l.outputs i x e) (each_of_all (λ x. (1 ≤ x) × (x ≤ 2147483647)) l.inputs h.variables) h.rising in
+      ∙ inputs_read symbols l.inputs (λ i x e. input_name l.inputs l.outputs i x e) (each_of_all (λ x. (1 ≤ x) × (x ≤ 2147483647)) l.inputs h.variables) h.strict.rising in
       let rooted : all_read (map named_output (named_roots (λ n. moved first order (numbered (variables_of w) n)) symbols 111 0 outputs)) ≡ Some circuit.outputs =
       outputs_read (λ n. moved first order (numbered (variables_of w) n)) (moved first order) symbols 0 outputs l.outputs outputs_are (λ i o e. let e0 : i ≡ 0 + i = omega arith in rw e0 at (output_name l.inputs l.outputs i o e))
       (each_then (λ (o : OutName × ℕ). numbered (variables_of w) o.1 ≡ o.1) (λ (o : OutName × ℕ). moved first order (numbered (variables_of w) o.1) ≡ moved first order o.1) l.outputs (λ o e. ap (moved first order) e) kept) in

@@ -9,10 +9,10 @@ use Rattle.std.proofs.lemmas.Option.{slice_get_within, slice_get-get_or}
 use Rattle.craig_spec.specs.Circuit as circuit
 use Rattle.craig_aig.specs.Arenas.{IsArena}
 use Rattle.craig_aig.specs.Cones.{cone}
-use Rattle.craig_aig.specs.Edges.{Edge}
+use Rattle.craig_aig.specs.Edges.{Edge, plain_edge}
+use Rattle.craig_aig.specs.Operands.{ConesFromOperands}
 use Rattle.craig_aig.specs.declared.node.Node.{Node}
 use Rattle.craig_aig.specs.declared.node.Node.TheVariants.{Input, Gate}
-use Rattle.craig_aig.proofs.FunctionLemmas.{cone-node, plain_edge}
 use Rattle.craig_base.specs.declared.variable.Var.{Var}
 use Rattle.craig_aiger.specs.declared.out_name.OutName.{OutName}
 use Rattle.craig_aiger.specs.Layouts.{AreNeeded, IsLayout, Layout, at, circuit_of, edges_of, input_in, literal_of}
@@ -23,7 +23,7 @@ use Rattle.craig_aiger.proofs.TableLemmas.{map_at}
 abbrev reached : List Node → List Edge → ℕ → Bool
 reached nodes edges x = list_any (λ e. list_any (eqb x) (cone nodes e)) edges
 
-both_parts : (a b : Bool) → (a && b) ≡ true → (a ≡ true) × (b ≡ true)
+pub both_parts : (a b : Bool) → (a && b) ≡ true → (a ≡ true) × (b ≡ true)
 both_parts true b e = (refl, e)
 both_parts false b e = absurd cc
 
@@ -38,18 +38,18 @@ edge_reached nodes edges j d within =
     list_any_at (λ e. list_any (eqb x) (cone nodes e)) edges j d within (list_any_at (eqb x) (cone nodes (get_or edges j d)) m.0 x m.1 (eq-eqb x (get_or (cone nodes (get_or edges j d)) m.0 x) (sym m.2))))
 
 -- and so is what needed nodes reach
-needed_reached : (nodes : List Node) (edges : List Edge) (table : List (Option Node)) (k : ℕ) → IsArena nodes → AreNeeded nodes edges table → is_some (at table k) ≡ true → k < length nodes → list_all (reached nodes edges) (cone nodes (plain_edge k)) ≡ true
-needed_reached nodes edges table k arena h some within =
+needed_reached : ConesFromOperands → (nodes : List Node) (edges : List Edge) (table : List (Option Node)) (k : ℕ) → IsArena nodes → AreNeeded nodes edges table → is_some (at table k) ≡ true → k < length nodes → list_all (reached nodes edges) (cone nodes (plain_edge k)) ≡ true
+needed_reached from_operands nodes edges table k arena h some within =
     (h.needed k within).0 some (λ p. list_all (reached nodes edges) (cone nodes (plain_edge p))) (λ j d inside. edge_reached nodes edges j d inside)
     (λ p l r is all.
-    let e : cone nodes (plain_edge p) ≡ cone nodes l ++ cone nodes r = cone-node nodes p (Gate l r) arena is in
+    let e : cone nodes (plain_edge p) ≡ cone nodes l ++ cone nodes r = from_operands nodes p (Gate l r) arena is in
     both_parts (list_all (reached nodes edges) (cone nodes l)) (list_all (reached nodes edges) (cone nodes r)) (sym (list_all-append (reached nodes edges) (cone nodes l) (cone nodes r)) ∙ (rw e at all)))
 
 -- the place in the table of one that it gives
-record Given (table : List (Option Node)) (v : ℕ) : Type 0 where
-  place : ℕ
-  within : place < length table
-  gives : input_in (at table place) ≡ Some v
+pub record Given (table : List (Option Node)) (v : ℕ) : Type 0 where
+  pub place : ℕ
+  pub within : place < length table
+  pub gives : input_in (at table place) ≡ Some v
 
 given_later : (o : Option Node) (table : List (Option Node)) (v : ℕ) → Given table v → Given (o ∷ table) v
 given_later o table v g = record { place = suc g.place; within = omega (arith, g.within); gives = g.gives }
@@ -59,11 +59,11 @@ given_by o table v None e m rest = given_later o table v (rest m)
 given_by o table v (Some x) e (zero, within, is) rest = record { place = 0; within = omega arith; gives = e ∙ ap Some is }
 given_by o table v (Some x) e (suc k, within, is) rest = given_later o table v (rest (k, omega arith, is))
 
-given : (table : List (Option Node)) (v : ℕ) → Contains (filter_map input_in table) v → Given table v
+pub given : (table : List (Option Node)) (v : ℕ) → Contains (filter_map input_in table) v → Given table v
 given [] v m = absurd (omega (arith, m.1))
 given (o ∷ table) v m = given_by o table v (input_in o) refl m (given table v)
 
-member_of_map : {X Y : Type 0} (f : X → Y) (xs : List X) (y : Y) → Contains (map f xs) y → (x : X) × Contains xs x × (f x ≡ y)
+pub member_of_map : {X Y : Type 0} (f : X → Y) (xs : List X) (y : Y) → Contains (map f xs) y → (x : X) × Contains xs x × (f x ≡ y)
 member_of_map f [] y (k, within, is) = absurd (omega arith)
 member_of_map f (x ∷ xs) y (zero, within, is) = (x, (0, omega arith, refl), is)
 member_of_map f (x ∷ xs) y (suc k, within, is) =
@@ -111,16 +111,16 @@ module _ (nodes : List Node) (names : List ℕ) (outputs : List (OutName × Edge
       (r.place, l, laid, (same_cones r.place r.output l x r.there laid).1 (subst (Contains (map (λ k. get_or names k 0) (cone nodes r.output.1))) named (map_member (λ k. get_or names k 0) (cone nodes r.output.1) v r.has_it)))
 
   -- a needed input is reached
-  input_reached : (v : ℕ) → IsArena nodes → (g : Given h.table v) → (n : (x : Var) × (at h.table g.place ≡ Some (Input x)) × (x.0 ≡ v)) → reached nodes (edges_of outputs) v ≡ true
-  input_reached v arena g n =
+  input_reached : ConesFromOperands → (v : ℕ) → IsArena nodes → (g : Given h.table v) → (n : (x : Var) × (at h.table g.place ≡ Some (Input x)) × (x.0 ≡ v)) → reached nodes (edges_of outputs) v ≡ true
+  input_reached from_operands v arena g n =
       let there : slice_get nodes g.place ≡ Some (Input n.0) = h.needed.nodes_are g.place (Input n.0) n.1 in
       let all : list_all (reached nodes (edges_of outputs)) (cone nodes (plain_edge g.place)) ≡ true =
-      needed_reached nodes (edges_of outputs) h.table g.place arena h.needed (is_some_of (at h.table g.place) (Input n.0) n.1) (slice_get_within nodes g.place (Input n.0) there) in
-      let c : cone nodes (plain_edge g.place) ≡ v ∷ [] = cone-node nodes g.place (Input n.0) arena there ∙ ap (λ k. k ∷ []) n.2 in
+      needed_reached from_operands nodes (edges_of outputs) h.table g.place arena h.needed (is_some_of (at h.table g.place) (Input n.0) n.1) (slice_get_within nodes g.place (Input n.0) there) in
+      let c : cone nodes (plain_edge g.place) ≡ v ∷ [] = from_operands nodes g.place (Input n.0) arena there ∙ ap (λ k. k ∷ []) n.2 in
       (both_parts (reached nodes (edges_of outputs) v) true (rw c at all)).0
 
-  pub AreUsed-layout : IsArena nodes → (x : ℕ) → Contains layout.inputs x → (j : ℕ) × (l : OutName × ℕ) × (slice_get layout.outputs j ≡ Some l) × Contains (circuit.circuit_cone (circuit_of layout) l.1) x
-  AreUsed-layout arena x here =
+  pub AreUsed-layout : ConesFromOperands → IsArena nodes → (x : ℕ) → Contains layout.inputs x → (j : ℕ) × (l : OutName × ℕ) × (slice_get layout.outputs j ≡ Some l) × Contains (circuit.circuit_cone (circuit_of layout) l.1) x
+  AreUsed-layout from_operands arena x here =
       let m = member_of_map (λ k. get_or names k 0) (filter_map input_in h.table) x ((h.inputs_are x).0 here) in
       let g : Given h.table m.0 = given h.table m.0 m.1 in
-      used_from x m.0 m.2 (reaching nodes outputs m.0 (input_reached m.0 arena g (input_is (at h.table g.place) m.0 g.gives)))
+      used_from x m.0 m.2 (reaching nodes outputs m.0 (input_reached from_operands m.0 arena g (input_is (at h.table g.place) m.0 g.gives)))

@@ -6,12 +6,13 @@ use Rattle.std.specs.List.Sorted.{IsStrictlyIncreasing}
 use Rattle.std.proofs.lemmas.Bool.Decides.{nat_tests}
 use Rattle.std.proofs.lemmas.List.{length-map, take_all}
 use Rattle.std.proofs.lemmas.Option.{slice_get_within, slice_get-get_or}
+use Rattle.craig_spec.specs.Circuit.{IsStrict}
 use Rattle.craig_aig.specs.Arenas.{IsArena}
 use Rattle.craig_aig.specs.Edges.{Edge}
 use Rattle.craig_aig.specs.declared.node.Node.{Node}
 use Rattle.craig_aig.specs.declared.node.Node.TheVariants.{Gate}
 use Rattle.craig_aiger.specs.declared.out_name.OutName.{OutName}
-use Rattle.craig_aiger.specs.Layouts.{Layout, at, edges_of, input_in, gate_in, gate_of, ordered, literal_of, AreNeeded, IsLayout, IsNumbering, IsWritable}
+use Rattle.craig_aiger.specs.Layouts.{Layout, circuit_of, at, edges_of, input_in, gate_in, gate_of, ordered, literal_of, AreNeeded, IsLayout, IsNumbering, IsWritable}
 use Rattle.craig_aiger.proofs.NeededLemmas.{gate_read}
 use Rattle.craig_aiger.proofs.CircuitLemmas.{number_below, some_node}
 use Rattle.craig_aiger.proofs.FunctionLemmas.{kept, output_needed}
@@ -40,11 +41,11 @@ length-filter_map-le h [] = omega arith
 length-filter_map-le h (x ∷ xs) = omega (arith, one_or_none (h x) (filter_map h xs), length-filter_map-le h xs)
 
 -- where the j-th of what the list gives comes from
-record From {X Y : Type 0} (h : X → Option Y) (xs : List X) (j : ℕ) (y : Y) (d : X) : Type 0 where
-  place : ℕ
-  within : place < length xs
-  gives : h (get_or xs place d) ≡ Some y
-  before : length (filter_map h (take place xs)) ≡ j
+pub record From {X Y : Type 0} (h : X → Option Y) (xs : List X) (j : ℕ) (y : Y) (d : X) : Type 0 where
+  pub place : ℕ
+  pub within : place < length xs
+  pub gives : h (get_or xs place d) ≡ Some y
+  pub before : length (filter_map h (take place xs)) ≡ j
 
 later : {X Y : Type 0} (h : X → Option Y) (x : X) (xs : List X) (j k : ℕ) (y : Y) (d : X) (o : Option Y) → h x ≡ o → From h xs j y d → k ≡ length (cons_option o []) + j → From h (x ∷ xs) k y d
 later h x xs j k y d None e f is = record {
@@ -65,7 +66,7 @@ from_either h x xs j y d None e rest is = later h x xs j j y d None e (rest j is
 from_either h x xs zero y d (Some z) e rest is = record { place = 0; within = omega arith; gives = e ∙ is; before = refl }
 from_either h x xs (suc j) y d (Some z) e rest is = later h x xs j (suc j) y d (Some z) e (rest j is) (omega arith)
 
-from : {X Y : Type 0} (h : X → Option Y) (xs : List X) (j : ℕ) (y : Y) (d : X) → slice_get (filter_map h xs) j ≡ Some y → From h xs j y d
+pub from : {X Y : Type 0} (h : X → Option Y) (xs : List X) (j : ℕ) (y : Y) (d : X) → slice_get (filter_map h xs) j ≡ Some y → From h xs j y d
 from {X} {Y} h [] j y d e = absurd (let within : j < length {A = Y} [] = slice_get_within [] j y e in omega (arith, within))
 from h (x ∷ xs) j y d e = from_either h x xs j y d (h x) refl (λ i. from h xs i y d) e
 
@@ -118,14 +119,14 @@ module _ (nodes : List Node) (names : List ℕ) (outputs : List (OutName × Edge
       let bound : literal_of h.numbers p.0.1 < 2 * (1 + length layout.inputs + length layout.gates) = omega (arith, gate_count, literal_before p.0.1 (length h.table) n.1 n.0 (omega arith)) in
       rw p.2 bound
 
-  pub IsWritable-layout : All (λ p. p.1.place < length nodes) outputs → length nodes ≤ 2 ^ 40 → length outputs ≤ 2 ^ 40 → length layout.inputs ≤ length nodes → All (λ x. (1 ≤ x) × (x ≤ 2147483647)) layout.inputs → All (λ o. o.0.cut < 2 ^ 32) layout.outputs → IsWritable layout
-  IsWritable-layout within few_nodes few_outputs few_inputs variables cuts = record {
+  pub IsWritable-layout : All (λ p. p.1.place < length nodes) outputs → length nodes ≤ 2 ^ 40 → length outputs ≤ 2 ^ 40 → length layout.inputs ≤ length nodes → All (λ x. (1 ≤ x) × (x ≤ 2147483647)) layout.inputs → All (λ o. o.0.cut < 2 ^ 32) layout.outputs → IsStrict (circuit_of layout) → IsWritable layout
+  IsWritable-layout within few_nodes few_outputs few_inputs variables cuts strict = record {
     few_inputs = omega (arith, h.needed.lengths);
     few_gates = omega (arith, h.needed.lengths, gate_count, take_all (length h.table) h.table, length-filter_map-le gate_in (take (length h.table) h.table), ap length (take_all (length h.table) h.table (omega arith)));
     few_outputs = omega (arith, output_count);
-    rising = h.rising;
     variables = variables;
     cuts = cuts;
     operands = operands_bound;
     literals = λ j d inside. output_bound within j (get_or layout.outputs j d) (slice_get-get_or layout.outputs j d inside);
+    strict = strict;
   }

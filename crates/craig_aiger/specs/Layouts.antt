@@ -32,14 +32,15 @@ pub record IsWritable (l : Layout) : Type 0 where
   pub few_inputs : length l.inputs ≤ 2 ^ 40
   pub few_gates : length l.gates ≤ 2 ^ 40
   pub few_outputs : length l.outputs ≤ 2 ^ 40
-  -- the inputs rise, and are script variables
-  pub rising : IsStrictlyIncreasing l.inputs
+  -- the inputs are script variables
   pub variables : All (λ x. (1 ≤ x) × (x ≤ 2147483647)) l.inputs
   -- a gate has the greater operand first, and below its own literal
   pub operands : (j : ℕ) (g : ℕ × ℕ) → slice_get l.gates j ≡ Some g → (g.1 ≤ g.0) × (g.0 < 2 * (1 + length l.inputs + j))
   -- an output has a cut of 32 bits, and a literal of the circuit
   pub cuts : All (λ o. o.0.cut < 2 ^ 32) l.outputs
   pub literals : All (λ o. o.1 < 2 * (1 + length l.inputs + length l.gates)) l.outputs
+  -- the inputs rise, nothing is there twice, and each input and gate is reached from an output
+  pub strict : circuit.IsStrict (circuit_of l)
 
 -- with each gate the set of places has its operands
 abbrev pub IsClosed : List Node → (ℕ → Bool) → Type 0
@@ -133,8 +134,9 @@ pub record IsLayout (nodes : List Node) (names : List ℕ) (outputs : List (OutN
 abbrev pub dense_assignment : List ℕ → Assignment → Assignment
 dense_assignment names s = true_variables (map (variable_value s) names)
 
--- the outputs of the layout have the values and the cones of the edges, and each input is in a cone
+-- the outputs of the layout have the values and the cones of the edges, each input is in a cone, and the edges of the constant are the literals 0 and 1
 pub record HasFunctions (nodes : List Node) (names : List ℕ) (outputs : List (OutName × Edge)) (layout : Layout) : Type 0 where
   pub values : (s : Assignment) (j : ℕ) (o : OutName × Edge) (l : OutName × ℕ) → slice_get outputs j ≡ Some o → slice_get layout.outputs j ≡ Some l → circuit.circuit_value s (circuit_of layout) l.1 ≡ edge_value (dense_assignment names s) nodes o.1
   pub cones : (j : ℕ) (o : OutName × Edge) (l : OutName × ℕ) (x : ℕ) → slice_get outputs j ≡ Some o → slice_get layout.outputs j ≡ Some l → Contains (circuit.circuit_cone (circuit_of layout) l.1) x ↔ Contains (map (slice_index names) (cone nodes o.1)) x
   pub used : (x : ℕ) → Contains layout.inputs x → (j : ℕ) × (l : OutName × ℕ) × (slice_get layout.outputs j ≡ Some l) × Contains (circuit.circuit_cone (circuit_of layout) l.1) x
+  pub constants : (j : ℕ) (o : OutName × Edge) (l : OutName × ℕ) → slice_get outputs j ≡ Some o → slice_get layout.outputs j ≡ Some l → o.1.place ≡ 0 → l.1 ≡ (if o.1.negated then 1 else 0)

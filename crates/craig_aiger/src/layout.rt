@@ -1,8 +1,9 @@
 ghost use Rattle.std.specs.Prelude.{◌≡◌, ◌<◌, ◌++◌, ℕ, All, Contains, length, slice_get, Some, IfOk, IsOk, OnOk, OnErr};
+ghost use Rattle.craig_spec.specs.Circuit.{IsStrict};
 ghost use Rattle.craig_aig.specs.Cones.{cone};
 ghost use Rattle.craig_aiger.specs.Appending.{HasRoom};
 ghost use Rattle.craig_aiger.specs.AsciiText.{aag_text, text_in};
-ghost use Rattle.craig_aiger.specs.Layouts.{HasFunctions, IsLayout, IsWritable};
+ghost use Rattle.craig_aiger.specs.Layouts.{circuit_of, HasFunctions, IsLayout, IsWritable};
 ghost use Rattle.craig_aiger.specs.RoundTrip.{ReadsAs};
 
 use crate::ascii::append_text;
@@ -11,7 +12,7 @@ use crate::needed::needed_nodes;
 use crate::numbering::{number_nodes, numbered_gates, numbered_outputs};
 use crate::size::text_size;
 use crate::{Form, OutName};
-use craig_aig::{Aig, Edge};
+use craig_aig::{Aig, Edge, bits_are_an_assignment, nodes_by_operands};
 use craig_base::Names;
 use std::alloc::{AllocError, Global};
 use std::marker::Model;
@@ -23,7 +24,8 @@ const LIMIT: usize = 1099511627776;
 /// arena, and an output for each edge.
 ///
 /// Literal 0 is false and literal 1 is true. Literal 2v is variable v and 2v + 1 its negation, where the
-/// variables from 1 on are the inputs in order, and then the gates.
+/// variables from 1 on are the inputs in order, and then the gates. A gate has operands of two variables, neither
+/// of them the constant, no two gates are the same, and each input and gate is reached from an output.
 #[derive(Debug, Drop)]
 pub struct Layout {
     inputs: Vec<u32>,
@@ -43,9 +45,9 @@ impl Model for Layout {
 
 impl Layout {
     /// The layout of the cones of the edges, each an output of the name beside it. The edges are of the arena,
-    /// and each dense variable of an input in their cones has a name. Only want of memory is an error. It takes
-    /// time and memory for the nodes of the arena, with a sort of the inputs. More than 2^40 nodes count as want
-    /// of memory, and so do as many outputs.
+    /// and each dense variable of an input in their cones has a name. The edges of the constant get the literals
+    /// 0 and 1. Only want of memory is an error. It takes time and memory for the nodes of the arena, with a sort
+    /// of the inputs. More than 2^40 nodes count as want of memory, and so do as many outputs.
     pub fn new(
         alloc: Global,
         aig: &Aig,
@@ -57,10 +59,15 @@ impl Layout {
         ensures layout { IfOk result (IsLayout aig.now names.now outputs.now) }
         ensures functions { IfOk result (HasFunctions aig.now names.now outputs.now) }
         ensures is_writable { IfOk result IsWritable }
+        ensures strict { IfOk result (λ l. IsStrict (circuit_of l)) }
     {
+        nodes_by_operands();
+        bits_are_an_assignment();
         if aig.len() > LIMIT || outputs.len() > LIMIT {
             return Err(AllocError);
         }
+        // What holds of each table of names is known from here on.
+        let _ = names.len();
         let table = needed_nodes(alloc, aig, outputs)?;
         let nodes = table.as_slice();
         let inputs = input_names(alloc, nodes, names)?;
@@ -127,13 +134,15 @@ impl Layout {
     /// Appends the ASCII text: a header line, a line for each input, each output and each gate, and then the
     /// symbols, which give each input its script variable and each output its name. There are no comments.
     /// The text is read back as a circuit whose outputs have, in order, the names, values and cones of the
-    /// layout's. It takes memory only where `out` has no room for the text, and once. After an error, for which
-    /// only want of memory is a cause, `out` is as before.
+    /// layout's, and those that are 0 or 1 stay so. No gate is written twice, and each input and gate is reached
+    /// from an output. It takes memory only where `out` has no room for the text, and once. After an error, for
+    /// which only want of memory is a cause, `out` is as before.
     pub fn write_aag(&self, out: &mut Vec<u8>) -> Result<(), AllocError>
         ensures text { OnOk result (out.new.items ≡ out.old.items ++ aag_text self.now) }
         ensures room { HasRoom out.old (length (aag_text self.now)) → IsOk result }
         ensures unchanged { OnErr result (out.new.items ≡ out.old.items) }
         ensures reads_back { ReadsAs self.now (aag_text self.now) }
+        ensures strict { IsStrict (circuit_of self.now) }
     {
         out.reserve(self.size_of(Form::Aag) as usize)?;
         append_text(

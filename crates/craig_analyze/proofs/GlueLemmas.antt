@@ -1,11 +1,14 @@
 -- The greatest of some levels, and how many of them differ.
-use Rattle.std.proofs.Common.{◌≡◌, ◌↔◌, inl, inr, ℕ, ◌+◌, ◌*◌, ◌<◌, ◌≤◌, Bool, true, false, List, [], ◌∷◌, ◌++◌, length, get_or, take, map, All, Contains, max, sym, ap, subst, ◌∙◌, arith}
+use Rattle.std.proofs.Common.{◌≡◌, ◌↔◌, inl, inr, ℕ, ◌+◌, ◌<◌, ◌≤◌, Bool, true, false, cond, eqb, List, [], ◌∷◌, ◌++◌, length, get_or, take, map, All, Contains, max, refl, sym, ap, subst, ◌∙◌, arith, eqb-true, eq-eqb}
+use Rattle.std.specs.List.{AllByRecursion, IsDistinct, list_any}
 use Rattle.std.proofs.lemmas.Bool.Decides.{leb_tells}
+use Rattle.std.proofs.lemmas.List.Folds.{Any-from_list_any}
+use Rattle.std.proofs.lemmas.List.Sums.{sum_by-cons}
+use Rattle.std.proofs.lemmas.Map.Steps.{length-le_from_distinct_below}
 use Rattle.std.proofs.lemmas.List.{map_more, take_all}
 use Rattle.std.proofs.lemmas.List.Elements.{All-push, All-map, All-weaker, Contains-push, Contains-push_cases, Contains-append_left, Contains-get_or, All-contains}
 use Rattle.craig_spec.specs.Literal.{Literal, Clause}
-use Rattle.craig_base.specs.Counting.{NoneMoreThan}
-use Rattle.craig_base.proofs.CountingLemmas.{length-le_from_counts}
+use Rattle.craig_base.specs.Counting.{NoneMoreThan, count_of}
 use Rattle.craig_watch.specs.Trail.{Trail, level_at}
 use Rattle.craig_watch.specs.Held.{HeldView, IsConsistent}
 use Rattle.craig_analyze.specs.Learnt.{IsGreatestOf}
@@ -63,6 +66,33 @@ count-step t lits i l n b old new within is same n_is marked =
 pub count-end : (t : Trail) (lits : Clause) (i : ℕ) (marks : List ℕ) → length lits ≤ i → SameNumbers marks (map (level_at t) (take i lits)) → SameNumbers marks (map (level_at t) lits)
 count-end t lits i marks past h = subst (λ (c : Clause). SameNumbers marks (map (level_at t) c)) (take_all i lits past) h
 
+-- a number that stands nowhere in a list differs from each member
+absent_step : (b : Bool) (x y : ℕ) (xs : List ℕ) → eqb x y ≡ b → cond b 1 0 + count_of x xs ≡ 0 → (count_of x xs ≡ 0 → AllByRecursion (λ z. eqb x z ≡ false) xs) → (eqb x y ≡ false) × AllByRecursion (λ z. eqb x z ≡ false) xs
+absent_step true x y xs is none rest = absurd (omega arith)
+absent_step false x y xs is none rest = (is, rest (omega arith))
+
+absent : (x : ℕ) (xs : List ℕ) → count_of x xs ≡ 0 → AllByRecursion (λ y. eqb x y ≡ false) xs
+absent x [] none = tt
+absent x (y ∷ xs) none = absent_step (eqb x y) x y xs refl (sym (sum_by-cons (λ z. cond (eqb x z) 1 0) y xs) ∙ none) (absent x xs)
+
+-- numbers of which none stands twice are distinct
+IsDistinct-once : (xs : List ℕ) → NoneMoreThan 1 xs → IsDistinct eqb xs
+unfolding IsDistinct
+IsDistinct-once [] once = tt
+IsDistinct-once (x ∷ xs) once =
+    let itself : eqb x x ≡ true = eq-eqb x x refl in
+    let here : count_of x (x ∷ xs) ≡ 1 + count_of x xs = sum_by-cons (λ z. cond (eqb x z) 1 0) x xs ∙ ap (λ (b : Bool). cond b 1 0 + count_of x xs) itself in
+    let none : count_of x xs ≡ 0 = omega (arith, here, once x) in
+    (absent x xs none, IsDistinct-once xs (λ y. let more = sum_by-cons (λ z. cond (eqb y z) 1 0) x xs in omega (arith, more, once y)))
+
+-- a member of numbers below a bound is below it
+member-below : (n : ℕ) (xs : List ℕ) (q : ℕ) → All (λ x. x < n) xs → list_any (eqb q) xs ≡ true → q < n
+member-below n xs q small is =
+    let m = Any-from_list_any (eqb q) xs is in
+    let low : get_or xs m.0 m.1 < n = small m.0 m.1 m.2 in
+    let same : q ≡ m.1 = eqb-true q m.1 m.4 in
+    omega (arith, same, m.3, low)
+
 -- so there are few different levels
 levels-small : (h : HeldView) (lits : Clause) → IsConsistent h → All (λ n. n < h.level + 1) (map (level_at h.trail) lits)
 levels-small h lits ok = All-map (λ n. n < h.level + 1) (level_at h.trail) lits (λ k d w. let le : level_at h.trail (get_or lits k d) ≤ h.level = level_at-le h (get_or lits k d) ok in omega arith)
@@ -73,6 +103,6 @@ few-levels h lits marks ok vars once same =
     let n : ℕ = get_or marks k d in
     let there = (same n).0 (Contains-get_or marks k d w) in
     All-contains (λ n. n < h.level + 1) (map (level_at h.trail) lits) n (levels-small h lits ok) there in
-    let few : length marks ≤ 1 * (h.level + 1) = length-le_from_counts (h.level + 1) 1 marks small once in
+    let few : length marks ≤ h.level + 1 = length-le_from_distinct_below marks (h.level + 1) (IsDistinct-once marks once) (λ q is. member-below (h.level + 1) marks q small is) in
     let bound = ok.few in
     omega arith

@@ -1,10 +1,10 @@
-pub mod PlaceLemmas
-pub mod LevelLemmas
-pub mod CountLemmas
-pub mod GlueLemmas
-pub mod ChainLemmas
-pub mod ResolventLemmas
-pub mod HeldClauseLemmas
-pub mod WalkLemmas
-pub mod LoopLemmas
-pub mod LearntLemmas
+mod PlaceLemmas
+mod LevelLemmas
+mod CountLemmas
+mod GlueLemmas
+mod ChainLemmas
+mod ResolventLemmas
+mod HeldClauseLemmas
+mod WalkLemmas
+mod LoopLemmas
+mod LearntLemmas

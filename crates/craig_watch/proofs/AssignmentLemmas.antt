@@ -4,8 +4,7 @@ use Rattle.std.specs.List.{filter}
 use Rattle.std.proofs.lemmas.Bool.{eqb-false}
 use Rattle.craig_spec.specs.Literal.{Literal, Clause}
 use Rattle.craig_spec.specs.Truth.{Assignment, IsModel, variable_value, literal_value, clause_value}
-use Rattle.craig_base.specs.Arena.{ArenaView, IsArena, clauses_of}
-use Rattle.craig_base.proofs.FoundLemmas.{IsModel-from_found}
+use Rattle.craig_base.specs.Arena.{ArenaView, IsArena, clauses_of, literals_of}
 use Rattle.craig_watch.specs.declared.trail_entry.TrailEntry.{TrailEntry}
 use Rattle.craig_watch.specs.declared.value.Value.TheVariants.{True, Free}
 use Rattle.craig_watch.specs.Trail.{Trail, entry_of, value_under, AreDistinct, assignment_of}
@@ -68,6 +67,6 @@ settled-true t c apart (inl (l, has, is)) assigned = clause_value-member (assign
 settled-true t c apart (inr (l, m, has_l, has_m, differ, free_l, free_m)) assigned = absurd (assigned l has_l free_l)
 
 -- so it is a model of the held clauses once propagation is complete and each of their variables has a value
-pub IsModel-complete : (a : ArenaView) (t : Trail) → IsArena a → AreDistinct t → IsComplete a t → ((id : ℕ) (c : Clause) (l : Literal) → held_clause a id ≡ Some c → Contains c l → value_under t l ≢ Free) → IsModel (assignment_of t) (clauses_of a)
-IsModel-complete a t arena apart complete assigned =
-    IsModel-from_found a (assignment_of t) arena (λ id c held. settled-true t c apart (complete id c held) (λ l. assigned id c l held))
+pub IsModel-complete : ((a : ArenaView) (s : Assignment) → IsArena a → ((id : ℕ) (c : Clause) → literals_of a id ≡ Some c → clause_value s c ≡ true) → IsModel s (clauses_of a)) → (a : ArenaView) (t : Trail) → IsArena a → AreDistinct t → IsComplete a t → ((id : ℕ) (c : Clause) (l : Literal) → held_clause a id ≡ Some c → Contains c l → value_under t l ≢ Free) → IsModel (assignment_of t) (clauses_of a)
+IsModel-complete model_from_found a t arena apart complete assigned =
+    model_from_found a (assignment_of t) arena (λ id c held. settled-true t c apart (complete id c held) (λ l. assigned id c l held))

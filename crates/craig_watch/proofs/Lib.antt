@@ -1,9 +1,9 @@
-pub mod TrailLemmas
-pub mod HeldFieldsLemmas
-pub mod HeldLemmas
-pub mod StoredLemmas
-pub mod StandingLemmas
-pub mod PlacesLemmas
-pub mod LevelsLemmas
-pub mod AssertingLemmas
-pub mod AssignmentLemmas
+mod TrailLemmas
+mod HeldFieldsLemmas
+mod HeldLemmas
+mod StoredLemmas
+mod StandingLemmas
+mod PlacesLemmas
+mod LevelsLemmas
+mod AssertingLemmas
+mod AssignmentLemmas

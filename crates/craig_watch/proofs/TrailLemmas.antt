@@ -1,5 +1,6 @@
 -- Trails: what the entries of variables and the parts up to a level are.
-use Rattle.std.proofs.Common.{◌≡◌, ◌≢◌, ◌⊎◌, inl, inr, ℕ, suc, zero, ◌+◌, ◌*◌, ◌<◌, ◌≤◌, Bool, true, false, cond, eqb, leb, List, [], ◌∷◌, ◌++◌, length, get_or, take, All, AllPairs, Option, Some, None, refl, map, is_none, sym, ap, subst, ◌∙◌, arith, ne_eqb, leb-true, leb-false}
+use Rattle.std.proofs.Common.{◌≡◌, ◌≢◌, ◌⊎◌, inl, inr, ℕ, suc, zero, ◌+◌, ◌*◌, ◌<◌, ◌≤◌, Bool, true, false, cond, eqb, leb, List, [], ◌∷◌, ◌++◌, length, get_or, take, All, AllPairs, Option, Some, None, refl, map, is_none, sym, ap, subst, ◌∙◌, arith, ne_eqb, eqb-true, leb-true, leb-false}
+use Rattle.std.specs.List.{list_any}
 use Rattle.std.specs.Option.{option_map_or}
 use Rattle.std.proofs.lemmas.Grind.{common_steps}
 use Rattle.std.proofs.lemmas.Bool.{eqb-false}
@@ -7,9 +8,10 @@ use Rattle.std.proofs.lemmas.Bool.Decides.{leb_tells, Decides-eqb}
 use Rattle.std.proofs.lemmas.List.{length_push, take-append-le, take_all, get_or_append_left, get_or-map, length-map}
 use Rattle.std.proofs.lemmas.List.Elements.{All-map}
 use Rattle.std.proofs.lemmas.List.Sums.{sum_by-append, sum_by-take-le}
+use Rattle.std.proofs.lemmas.List.Folds.{Any-from_list_any}
 use Rattle.std.proofs.lemmas.Map.Made.{IsDistinct-from_AllPairs}
+use Rattle.std.proofs.lemmas.Map.Steps.{length-le_from_distinct_below}
 use Rattle.std.proofs.Math.Seq.{get_or-append_seam, take-suc}
-use Rattle.craig_base.proofs.CountingLemmas.{length-le_from_counts, NoneMoreThan-IsDistinct}
 use Rattle.craig_spec.specs.Literal.{Literal}
 use Rattle.craig_watch.specs.declared.trail_entry.TrailEntry.{TrailEntry}
 use Rattle.craig_watch.specs.declared.value.Value.{Value}
@@ -206,6 +208,14 @@ pairs-map t apart i j d before within e =
     let at_j : get_or (map (λ (e : TrailEntry). e.literal.var) t) j d ≡ (get_or t j any_entry).literal.var = get_or-map (λ (e : TrailEntry). e.literal.var) t j any_entry d (omega arith) in
     apart i j any_entry before (omega arith) (sym at_i ∙ e ∙ at_j)
 
+-- a member of numbers below a bound is below it
+member-below : (n : ℕ) (xs : List ℕ) (q : ℕ) → All (λ x. x < n) xs → list_any (eqb q) xs ≡ true → q < n
+member-below n xs q small is =
+    let m = Any-from_list_any (eqb q) xs is in
+    let low : get_or xs m.0 m.1 < n = small m.0 m.1 m.2 in
+    let same : q ≡ m.1 = eqb-true q m.1 m.4 in
+    omega (arith, same, m.3, low)
+
 -- different variables below a bound are no more than the bound
 pub length-le_from_known : (t : Trail) (vars : ℕ) → All (λ e. e.literal.var < vars) t → AreDistinct t → length t ≤ vars
 length-le_from_known t vars known apart =
@@ -213,5 +223,5 @@ length-le_from_known t vars known apart =
     let long : length xs ≡ length t = length-map t (λ (e : TrailEntry). e.literal.var) in
     let small : All (λ x. x < vars) xs = All-map (λ x. x < vars) (λ (e : TrailEntry). e.literal.var) t known in
     let pairs : AllPairs (λ x y. x ≢ y) xs = pairs-map t apart in
-    let few : length xs ≤ 1 * vars = length-le_from_counts vars 1 xs small (NoneMoreThan-IsDistinct xs (IsDistinct-from_AllPairs Decides-eqb xs pairs)) in
+    let few : length xs ≤ vars = length-le_from_distinct_below xs vars (IsDistinct-from_AllPairs Decides-eqb xs pairs) (λ q is. member-below vars xs q small is) in
     omega arith

@@ -5,4 +5,4 @@ pub returns-clause-literal : goal.returns-clause-literal
 returns-clause-literal c = literal_value-true
 
 pub returns-clause-model : goal.returns-clause-model
-returns-clause-model c = IsModel-complete
+returns-clause-model c = IsModel-complete c.models_of_an_arena.ensures.model

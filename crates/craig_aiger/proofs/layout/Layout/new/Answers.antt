@@ -1,16 +1,18 @@
 use Rattle.std.proofs.Common.{subst, sym, ap, length, Contains, arith}
-use Rattle.craig_aiger.specs.Layouts.{AreNamed, IsLayout, OperandsBelow, edges_of}
+use Rattle.craig_spec.specs.Circuit.{IsStrict}
+use Rattle.craig_aiger.specs.Layouts.{AreNamed, IsLayout, Layout, OperandsBelow, circuit_of, edges_of}
 use Rattle.craig_aiger.proofs.NeededLemmas.{OperandsBelow-needed}
 use Rattle.craig_aiger.proofs.FunctionLemmas.{HasFunctions-layout}
 use Rattle.craig_aiger.proofs.NamedLemmas.{AreNamed-needed}
+use Rattle.craig_aiger.proofs.StrictLemmas.{IsStrict-layout}
 use Rattle.craig_aiger.proofs.WritableLemmas.{IsLayout-made, IsWritable-layout}
 use Rattle.craig_aiger.proofs.layout.Layout.new.Goals as goal
 
 pub input_names-requires : goal.input_names-requires
-input_names-requires c = subst (AreNamed c.args.names.now) (sym c.as_slice-nodes.ensures.value) (AreNamed-needed c.args.aig.now c.args.names.now c.args.outputs.now c.in_ok-table.table.items c.len.ensures.is_arena c.in_ok-table.ensures c.requires.inputs)
+input_names-requires c = subst (AreNamed c.args.names.now) (sym c.as_slice-nodes.ensures.value) (AreNamed-needed c.nodes_by_operands.ensures.cone c.args.aig.now c.args.names.now c.args.outputs.now c.in_ok-table.table.items c.len.ensures.is_arena c.in_ok-table.ensures c.requires.inputs)
 
 pub number_nodes-requires-clause-named : goal.number_nodes-requires-clause-named
-number_nodes-requires-clause-named c = subst (AreNamed c.args.names.now) (sym c.as_slice-nodes.ensures.value) (AreNamed-needed c.args.aig.now c.args.names.now c.args.outputs.now c.in_ok-table.table.items c.len.ensures.is_arena c.in_ok-table.ensures c.requires.inputs)
+number_nodes-requires-clause-named c = subst (AreNamed c.args.names.now) (sym c.as_slice-nodes.ensures.value) (AreNamed-needed c.nodes_by_operands.ensures.cone c.args.aig.now c.args.names.now c.args.outputs.now c.in_ok-table.table.items c.len.ensures.is_arena c.in_ok-table.ensures c.requires.inputs)
 
 pub number_nodes-requires-clause-names : goal.number_nodes-requires-clause-names
 number_nodes-requires-clause-names c = λ x h. subst (λ l. Contains l x) (sym c.as_slice.ensures.value) ((c.in_ok-inputs.ensures.names x).1 h)
@@ -20,13 +22,27 @@ numbered_gates-requires-clause-below c = subst OperandsBelow (sym c.as_slice-nod
 
 pub invariant_of-result : goal.invariant_of-result
 invariant_of-result c =
-    IsWritable-layout c.args.aig.now c.args.names.now c.args.outputs.now (record { inputs = c.in_ok-inputs.inputs.items; gates = c.in_ok-gates.gates.items; outputs = c.in_ok-outputs.outputs.items }) c.len.ensures.is_arena
-    (IsLayout-made c.args.aig.now c.args.names.now c.args.outputs.now c.in_ok-table.table.items c.as_slice-nodes.result.now c.in_ok-inputs.inputs.items c.as_slice.result.now c.in_ok-numbers.numbers.items c.as_slice-numbers.result.now c.in_ok-gates.gates.items c.in_ok-outputs.outputs.items
-    c.as_slice-nodes.ensures.value c.as_slice.ensures.value c.as_slice-numbers.ensures.value c.in_ok-table.ensures c.in_ok-numbers.ensures.numbering c.in_ok-inputs.ensures.rising c.in_ok-inputs.ensures.names c.in_ok-gates.ensures c.in_ok-outputs.ensures.value)
-    c.requires.edges (omega (arith, c.len.ensures.value, c.if-len-gt-LIMIT.false)) (omega (arith, c.if-outputs-gt-LIMIT.false)) (omega (arith, c.in_ok-inputs.ensures.bound, c.in_ok-inputs.inputs.ok.0, c.in_ok-table.ensures.lengths, ap length c.as_slice-nodes.ensures.value)) c.in_ok-inputs.ensures.variables c.in_ok-outputs.ensures.cuts
+    let layout : Layout = record { inputs = c.in_ok-inputs.inputs.items; gates = c.in_ok-gates.gates.items; outputs = c.in_ok-outputs.outputs.items } in
+    let laid : IsLayout c.args.aig.now c.args.names.now c.args.outputs.now layout =
+    IsLayout-made c.args.aig.now c.args.names.now c.args.outputs.now c.in_ok-table.table.items c.as_slice-nodes.result.now c.in_ok-inputs.inputs.items c.as_slice.result.now c.in_ok-numbers.numbers.items c.as_slice-numbers.result.now c.in_ok-gates.gates.items c.in_ok-outputs.outputs.items
+    c.as_slice-nodes.ensures.value c.as_slice.ensures.value c.as_slice-numbers.ensures.value c.in_ok-table.ensures c.in_ok-numbers.ensures.numbering c.in_ok-inputs.ensures.rising c.in_ok-inputs.ensures.names c.in_ok-gates.ensures c.in_ok-outputs.ensures.value in
+    let strict : IsStrict (circuit_of layout) = IsStrict-layout c.args.aig.now c.args.names.now c.args.outputs.now layout c.len.ensures.is_arena laid c.requires.edges c.len-2.ensures.are_names.distinct in
+    IsWritable-layout c.args.aig.now c.args.names.now c.args.outputs.now layout c.len.ensures.is_arena laid c.requires.edges
+    (omega (arith, c.len.ensures.value, c.if-len-gt-LIMIT.false)) (omega (arith, c.if-outputs-gt-LIMIT.false)) (omega (arith, c.in_ok-inputs.ensures.bound, c.in_ok-inputs.inputs.ok.0, c.in_ok-table.ensures.lengths, ap length c.as_slice-nodes.ensures.value))
+    c.in_ok-inputs.ensures.variables c.in_ok-outputs.ensures.cuts strict
 
 pub returns : goal.returns
 returns c =
-    let laid : IsLayout c.args.aig.now c.args.names.now c.args.outputs.now (record { inputs = c.in_ok-inputs.inputs.items; gates = c.in_ok-gates.gates.items; outputs = c.in_ok-outputs.outputs.items }) = IsLayout-made c.args.aig.now c.args.names.now c.args.outputs.now c.in_ok-table.table.items c.as_slice-nodes.result.now c.in_ok-inputs.inputs.items c.as_slice.result.now c.in_ok-numbers.numbers.items c.as_slice-numbers.result.now c.in_ok-gates.gates.items c.in_ok-outputs.outputs.items
+    let layout : Layout = record { inputs = c.in_ok-inputs.inputs.items; gates = c.in_ok-gates.gates.items; outputs = c.in_ok-outputs.outputs.items } in
+    let laid : IsLayout c.args.aig.now c.args.names.now c.args.outputs.now layout =
+    IsLayout-made c.args.aig.now c.args.names.now c.args.outputs.now c.in_ok-table.table.items c.as_slice-nodes.result.now c.in_ok-inputs.inputs.items c.as_slice.result.now c.in_ok-numbers.numbers.items c.as_slice-numbers.result.now c.in_ok-gates.gates.items c.in_ok-outputs.outputs.items
     c.as_slice-nodes.ensures.value c.as_slice.ensures.value c.as_slice-numbers.ensures.value c.in_ok-table.ensures c.in_ok-numbers.ensures.numbering c.in_ok-inputs.ensures.rising c.in_ok-inputs.ensures.names c.in_ok-gates.ensures c.in_ok-outputs.ensures.value in
-    record { layout = laid; functions = HasFunctions-layout c.args.aig.now c.args.names.now c.args.outputs.now (record { inputs = c.in_ok-inputs.inputs.items; gates = c.in_ok-gates.gates.items; outputs = c.in_ok-outputs.outputs.items }) c.len.ensures.is_arena laid c.requires.edges; is_writable = IsWritable-layout c.args.aig.now c.args.names.now c.args.outputs.now (record { inputs = c.in_ok-inputs.inputs.items; gates = c.in_ok-gates.gates.items; outputs = c.in_ok-outputs.outputs.items }) c.len.ensures.is_arena (IsLayout-made c.args.aig.now c.args.names.now c.args.outputs.now c.in_ok-table.table.items c.as_slice-nodes.result.now c.in_ok-inputs.inputs.items c.as_slice.result.now c.in_ok-numbers.numbers.items c.as_slice-numbers.result.now c.in_ok-gates.gates.items c.in_ok-outputs.outputs.items c.as_slice-nodes.ensures.value c.as_slice.ensures.value c.as_slice-numbers.ensures.value c.in_ok-table.ensures c.in_ok-numbers.ensures.numbering c.in_ok-inputs.ensures.rising c.in_ok-inputs.ensures.names c.in_ok-gates.ensures c.in_ok-outputs.ensures.value) c.requires.edges (omega (arith, c.len.ensures.value, c.if-len-gt-LIMIT.false)) (omega (arith, c.if-outputs-gt-LIMIT.false)) (omega (arith, c.in_ok-inputs.ensures.bound, c.in_ok-inputs.inputs.ok.0, c.in_ok-table.ensures.lengths, ap length c.as_slice-nodes.ensures.value)) c.in_ok-inputs.ensures.variables c.in_ok-outputs.ensures.cuts }
+    let strict : IsStrict (circuit_of layout) = IsStrict-layout c.args.aig.now c.args.names.now c.args.outputs.now layout c.len.ensures.is_arena laid c.requires.edges c.len-2.ensures.are_names.distinct in
+    record {
+      layout = laid;
+      functions = HasFunctions-layout c.args.aig.now c.args.names.now c.args.outputs.now layout c.len.ensures.is_arena laid c.bits_are_an_assignment.ensures c.nodes_by_operands.ensures.value c.nodes_by_operands.ensures.cone c.requires.edges;
+      is_writable = IsWritable-layout c.args.aig.now c.args.names.now c.args.outputs.now layout c.len.ensures.is_arena laid c.requires.edges
+          (omega (arith, c.len.ensures.value, c.if-len-gt-LIMIT.false)) (omega (arith, c.if-outputs-gt-LIMIT.false)) (omega (arith, c.in_ok-inputs.ensures.bound, c.in_ok-inputs.inputs.ok.0, c.in_ok-table.ensures.lengths, ap length c.as_slice-nodes.ensures.value))
+          c.in_ok-inputs.ensures.variables c.in_ok-outputs.ensures.cuts strict;
+      strict = strict;
+    }

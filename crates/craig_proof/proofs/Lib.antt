@@ -5,6 +5,7 @@ pub mod CoversLemmas
 pub mod FollowsLemmas
 pub mod MarksLemmas
 pub mod PairLemmas
+pub mod PartLemmas
 pub mod ReclaimLemmas
 pub mod ReplayLemmas
 pub mod RootLemmas

@@ -46,7 +46,7 @@ Contains-take n steps r (k, within, at) =
     let before : k < n = omega (arith, length-take n steps) in
     (k, omega (arith, length-take n steps), sym (get_or-take n steps k r before) ∙ at)
 
-EachStands-left : (p : ToldStep → Bool) (steps : List ToldStep) → EachStands steps → ((s r : ToldStep) → Contains steps s → Contains steps r → p s ≡ true → Contains (antecedents s.origin) r.id → p r ≡ true) → EachStands (filter p steps)
+pub EachStands-left : (p : ToldStep → Bool) (steps : List ToldStep) → EachStands steps → ((s r : ToldStep) → Contains steps s → Contains steps r → p s ≡ true → Contains (antecedents s.origin) r.id → p r ≡ true) → EachStands (filter p steps)
 EachStands-left p steps stand closed k d within =
     let l = left_at p steps k within in
     let s : ToldStep = get_or steps l.place d in

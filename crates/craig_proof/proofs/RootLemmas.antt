@@ -30,7 +30,7 @@ antecedent_below steps s x rising stand (k, within, at) ante =
     omega arith
 
 -- so no needed id is above the root
-needed_below_root : (steps : List ToldStep) (root id : ℕ) → AreRising steps → EachStands steps → IsNeeded steps root id → id ≤ root
+pub needed_below_root : (steps : List ToldStep) (root id : ℕ) → AreRising steps → EachStands steps → IsNeeded steps root id → id ≤ root
 needed_below_root steps root id rising stand needed =
     let below : ltb id (suc root) ≡ true = needed (λ x. ltb x (suc root)) (below_ltb root (suc root) (omega arith)) (λ s x here h ante.
     let up : s.id < suc root = ltb_below s.id (suc root) h in

@@ -1,14 +1,15 @@
 //! Laws of chains and of the steps that a tracer was told, for proofs about any tracer. The functions do nothing.
 
-ghost use Rattle.std.specs.Prelude.{◌≡◌, ◌≤◌, ◌+◌, [], ◌∷◌, ◌++◌, ℕ, List, Option, Some, None, All, Contains, IsTrue, is_some};
+ghost use Rattle.std.specs.Prelude.{◌≡◌, ◌≤◌, ◌+◌, [], ◌∷◌, ◌++◌, false, ℕ, List, Option, Some, None, All, Contains, IsTrue, is_some};
 ghost use Rattle.std.specs.Option.{ForSome, option_map};
 ghost use Rattle.craig_spec.specs.Literal.{Clause, Literal};
 ghost use Rattle.craig_spec.specs.Truth.{Assignment, clause_value};
 ghost use Rattle.craig_spec.specs.Occurs.{occurs_in_clause};
 ghost use Rattle.craig_spec.specs.Chain.{ChainStep, Derived, ToldStep, Told, IsAbove, IsTold, IsUnforgotten, IsResolvent, StandsOn, ChainOk, GivesSame, SameLiterals, antecedents, clause_told, nothing_told, with_step, without_id};
-ghost use Rattle.craig_spec.specs.Needed.{AllFollow, IsNeededPart, Reclaims};
+ghost use Rattle.craig_spec.specs.Needed.{AllFollow, IsNeeded, IsNeededPart, Reclaims, unforgotten};
 ghost use Rattle.craig_base.specs.Clauses.{IsTautology};
 ghost use Rattle.craig_proof.specs.Covers.{GivesSome, IsCovering, IsOldOrNext};
+ghost use Rattle.craig_proof.specs.Marks.{last_id};
 ghost use Rattle.craig_proof.specs.Tracer.{Appends, chain_of, original_step, derived_step};
 ghost use Rattle.craig_proof.specs.declared.step.Step.{Step};
 
@@ -26,6 +27,28 @@ pub fn told_steps_stand()
     ensures told { (t : Told) (s : ToldStep) → IsTold t → IsAbove t s.id → StandsOn t.steps s.literals s.origin → IsTold (with_step t s) }
     ensures forgotten { (id : ℕ) (t : Told) → IsTold t → IsTold (without_id id t) }
     ensures reclaimed { (before after : Told) → IsTold before → Reclaims before after → IsTold after }
+{}
+
+/// Each step is found under its id, of which there is no other step, and what is found is the clause of a step. An id
+/// isn't forgotten exactly where a step of it isn't.
+pub fn steps_are_found()
+    ensures found { (t : Told) (s : ToldStep) → IsTold t → Contains t.steps s → clause_told t.steps s.id ≡ Some s.literals }
+    ensures one { (t : Told) (r s : ToldStep) → IsTold t → Contains t.steps r → Contains t.steps s → r.id ≡ s.id → r ≡ s }
+    ensures step { (steps : List ToldStep) (id : ℕ) (c : Clause) → clause_told steps id ≡ Some c → (s : ToldStep) × Contains steps s × (s.id ≡ id) × (s.literals ≡ c) }
+    ensures unforgotten { (steps : List ToldStep) (id : ℕ) → IsUnforgotten steps id → (s : ToldStep) × Contains steps s × (s.id ≡ id) × (s.forgotten ≡ false) }
+    ensures kept { (steps : List ToldStep) (s : ToldStep) → Contains steps s → s.forgotten ≡ false → IsUnforgotten steps s.id }
+{}
+
+/// The steps that a root needs stand on one another by themselves. Each is a step of the whole, whether or not it is
+/// forgotten there, and the root needs it; each step that the root needs is one of them. Under an id that the root
+/// needs they have the same clause as the whole, and the root is the last of them.
+pub fn needed_part_stands()
+    ensures told { (t u : Told) (root : ℕ) → IsTold t → IsNeededPart t.steps root u.steps → u.greatest ≡ Some root → IsTold u }
+    ensures steps { (steps part : List ToldStep) (root : ℕ) (s : ToldStep) → IsNeededPart steps root part → Contains part s → (r : ToldStep) × Contains steps r × (s ≡ unforgotten r) × IsNeeded steps root r.id }
+    ensures has { (steps part : List ToldStep) (root : ℕ) (s : ToldStep) → IsNeededPart steps root part → Contains steps s → IsNeeded steps root s.id → Contains part (unforgotten s) }
+    ensures clause { (steps part : List ToldStep) (root id : ℕ) → IsNeededPart steps root part → IsNeeded steps root id → clause_told part id ≡ clause_told steps id }
+    ensures root { (t : Told) (part : List ToldStep) (root : ℕ) → IsTold t → IsUnforgotten t.steps root → IsNeededPart t.steps root part → last_id part ≡ Some root }
+    ensures unforgotten { (steps part : List ToldStep) (root : ℕ) → IsNeededPart steps root part → IsUnforgotten steps root → IsUnforgotten part root }
 {}
 
 /// A chain is one over any other clauses with the same literals under the ids that it names.
@@ -87,6 +110,8 @@ mod tests {
     fn the_laws_are_called(_rt: HostRuntime) -> Result<(), Fail> {
         told_clauses_follow();
         told_steps_stand();
+        steps_are_found();
+        needed_part_stands();
         chain_over_same_clauses();
         chain_follows();
         chain_variables();

@@ -21,7 +21,7 @@ mod tracer;
 pub use chain_store::ChainStore;
 pub use laws::{
     chain_follows, chain_grows, chain_over_same_clauses, chain_variables, covered_chain_is_told,
-    covering_is_kept, told_clauses_follow, told_steps_stand,
+    covering_is_kept, needed_part_stands, steps_are_found, told_clauses_follow, told_steps_stand,
 };
 pub use pair::Pair;
 pub use silent::Silent;

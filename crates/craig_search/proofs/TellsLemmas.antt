@@ -17,7 +17,7 @@ use Rattle.craig_search.proofs.ArenaLemmas.{flagged}
 
 pub Tells-start : (lent : ℕ → Option Clause) (first : ℕ) (IsUnit : ℕ → Type 0) (t : Told) → Tells lent first IsUnit t t
 Tells-start lent first IsUnit t = record {
-  steps = λ s here. inl (s, here, refl, refl, refl);
+  steps = λ s here. inl (s, here, refl, refl, refl, λ was. was);
   unforgotten = λ id kept none. kept;
 }
 

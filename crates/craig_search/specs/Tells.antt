@@ -1,5 +1,5 @@
 -- What a search tells a tracer that tells its meaning.
-use Rattle.std.specs.Prelude.{◌≡◌, ◌⊎◌, ℕ, ◌+◌, ◌-◌, ◌<◌, ◌≤◌, false, List, [], ◌∷◌, Option, Some, None, IsSome, Contains, length, slice_get}
+use Rattle.std.specs.Prelude.{◌≡◌, ◌⊎◌, ℕ, ◌+◌, ◌-◌, ◌<◌, ◌≤◌, true, false, List, [], ◌∷◌, Option, Some, None, IsSome, Contains, length, slice_get}
 use Rattle.craig_spec.specs.Literal.{Literal, Clause}
 use Rattle.craig_spec.specs.Chain.{ChainStep, Derived, ToldStep, Told, antecedents, IsUnforgotten}
 use Rattle.craig_spec.specs.Needed.{IsNeeded, IsOriginal}
@@ -10,9 +10,9 @@ use Rattle.craig_search.specs.declared.verdict.Verdict.{Verdict}
 use Rattle.craig_search.specs.declared.verdict.Verdict.TheVariants.{Model, Failed, Limit}
 use Rattle.craig_search.specs.Verdict.{Assumptions, at_places}
 
--- the step was told before, whether or not it is forgotten now
+-- the step was told before, and is forgotten now if it was
 abbrev pub WasTold : Told → ToldStep → Type 0
-WasTold t s = (r : ToldStep) × Contains t.steps r × (r.id ≡ s.id) × (r.literals ≡ s.literals) × (r.origin ≡ s.origin)
+WasTold t s = (r : ToldStep) × Contains t.steps r × (r.id ≡ s.id) × (r.literals ≡ s.literals) × (r.origin ≡ s.origin) × (r.forgotten ≡ true → s.forgotten ≡ true)
 
 -- a step with an id of this search, on clauses that were lent and on steps of this search; which originals there are is a parameter
 pub record IsOfSearch (lent : ℕ → Option Clause) (first : ℕ) (IsUnit : ℕ → Type 0) (s : ToldStep) : Type 0 where

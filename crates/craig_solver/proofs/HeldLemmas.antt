@@ -4,7 +4,7 @@ use Rattle.std.specs.Option.{option_map}
 use Rattle.std.proofs.lemmas.List.Elements.{All-push, All-weaker, Contains-append_left, Contains-push, Contains-push_cases}
 use Rattle.std.proofs.lemmas.List.Quantifiers.{all_pairs_push}
 use Rattle.craig_spec.specs.Literal.{Clause, Literal}
-use Rattle.craig_spec.specs.Chain.{SameLiterals, Told, IsUnforgotten}
+use Rattle.craig_spec.specs.Chain.{SameLiterals, Told, IsUnforgotten, clause_told}
 use Rattle.craig_spec.specs.Occurs.{occurs_in_clause}
 use Rattle.craig_spec.specs.Truth.{clause_value}
 use Rattle.craig_base.specs.Arena.{ArenaView, FlaggedClause, ChangesOnly, clause_at, with_clause}
@@ -20,7 +20,7 @@ use Rattle.craig_solver.specs.State.{AreHeldFor, AreKept, IsHeld, IsRootOf, IsSt
 use Rattle.craig_solver.proofs.AcceptedLemmas.{IsModel-fewer, IsModel-last, Occurs-last, Occurs-more}
 use Rattle.craig_solver.proofs.ArenaLemmas.{added-before, added-held, added-here, added-kept, old_or_added}
 use Rattle.craig_solver.proofs.ClauseLemmas.{SameLiterals-sym, clause_value-same, occurs_in_clause-same}
-use Rattle.craig_solver.proofs.ToldLemmas.{AreAccepted-more, AreAccepted-original, IsUnforgotten-step, before_step, unforgotten-below}
+use Rattle.craig_solver.proofs.ToldLemmas.{AreAccepted-more, AreAccepted-original, IsUnforgotten-step, before_step, clause_told-pushed, unforgotten-below}
 
 -- a tautology is accepted, and nothing else changes
 pub IsState-tautology : (told : Option Told) (accepted : List (Part × Clause)) (h : HeldView) (o : OrderView) (kept : List ClauseId) (root : Option ClauseId) (p : Part × Clause) → IsState told accepted h o kept root → IsTautology p.1 → All (λ (l : Literal). l.var < h.vars) p.1 → IsState told (accepted ++ p ∷ []) h o kept root
@@ -105,7 +105,8 @@ module _ (before after : Option Told) (accepted : List (Part × Clause)) (h n : 
       let old = state_of.root_of r root_is was.0 was.1 in
       let low : r.0 < h.arena.given = unforgotten-below was.0 (held_clause h.arena) h.arena.given r.0 (state_of.covers was.0 was.1) old.0 in (
         subst (λ (t : Told). IsUnforgotten t.steps r.0) (sym was.2) (IsUnforgotten-step was.0 (original_step id.0 part.0 f.literals) r.0 old.0),
-        ap (option_map (λ (g : FlaggedClause). g.literals)) (elsewhere h.arena n.arena id.0 f fresh only r.0 (λ same. omega (arith, low, same, next))) ∙ old.1,
+        subst (λ (t : Told). clause_told t.steps r.0 ≡ Some []) (sym was.2) (clause_told-pushed was.0.steps (original_step id.0 part.0 f.literals) r.0 [] old.1),
+        ap (option_map (λ (g : FlaggedClause). g.literals)) (elsewhere h.arena n.arena id.0 f fresh only r.0 (λ same. omega (arith, low, same, next))) ∙ old.2,
       )
 
   covers-added : CoversOriginal → IsCovering after (held_clause n.arena) n.arena.given

@@ -8,6 +8,7 @@ mod HeldLemmas
 mod ListLemmas
 mod ReadyLemmas
 mod RefutedLemmas
+mod RootLemmas
 mod SearchedLemmas
 mod StandLemmas
 mod ToldLemmas

@@ -1,8 +1,8 @@
 -- What is told of a refutation.
-use Rattle.std.proofs.Common.{◌≡◌, inl, List, [], ℕ, Option, Some, refl, subst, sym}
+use Rattle.std.proofs.Common.{◌≡◌, inl, List, [], ℕ, Option, Some, refl, ap, subst, sym, ◌∙◌}
 use Rattle.std.specs.Option.{ForSome, is_some}
 use Rattle.craig_spec.specs.Literal.{Clause}
-use Rattle.craig_spec.specs.Chain.{Told, IsUnforgotten}
+use Rattle.craig_spec.specs.Chain.{Told, IsUnforgotten, clause_told}
 use Rattle.craig_base.specs.declared.clause_id.ClauseId.{ClauseId}
 use Rattle.craig_base.specs.declared.script_part.Part.{Part}
 use Rattle.craig_proof.specs.ChainStore.{ChainStoreView}
@@ -13,6 +13,7 @@ use Rattle.craig_search.specs.Tells.{IsToldOf}
 use Rattle.craig_search.specs.Verdict.{Assumptions, IsVerdict}
 use Rattle.craig_solver.specs.declared.answer.Answer.{Answer}
 use Rattle.craig_solver.specs.declared.answer.Answer.TheVariants as answer
+use Rattle.craig_solver.specs.Answer.{root_of_answer}
 use Rattle.craig_solver.specs.Settling.{IsAnswerFor}
 use Rattle.craig_solver.specs.Told.{AreAccepted, TellsAnswer}
 use Rattle.craig_solver.proofs.SearchedLemmas.{originals-searched, root-unforgotten, told-still}
@@ -40,8 +41,8 @@ TellsAnswer-searched accepted same h n assumptions limit v a before after is_sam
     let both = subst (λ (o : Option Told). IsToldOf h n assumptions v (Some t.0) o) at (subst (λ (b : Option Told). IsToldOf h n assumptions v b after) t.1 told) in
     subst (λ (xs : List (Part × Clause)). TellsAnswer xs assumptions a u) is_same (tells-cases accepted h n assumptions v a t.0 u now both for)
 
--- the root of a refutation that a store was told may be replayed
-pub replayable : (accepted : List (Part × Clause)) (assumptions : Assumptions) (a : Answer) (root : ClauseId) (places : List ℕ) (kept shown : ChainStoreView) → a ≡ answer.Failed root places → ForSome (Some kept.told) (TellsAnswer accepted assumptions a) → shown ≡ kept → IsUnforgotten shown.told.steps root.0
-replayable accepted assumptions a root places kept shown is told same =
-    let refuted = subst (λ (b : Answer). ForSome (Some kept.told) (TellsAnswer accepted assumptions b)) is told in
-    subst (λ (s : ChainStoreView). IsUnforgotten s.told.steps root.0) (sym same) (refuted kept.told refl).unforgotten
+-- the root of a refutation that a store was told may be replayed until the next search
+pub replayable : (a : Answer) (root : ClauseId) (places : List ℕ) (after later : Option ℕ) (kept shown : ChainStoreView) → a ≡ answer.Failed root places → after ≡ root_of_answer a → later ≡ after → ((k : ℕ) → later ≡ Some k → ForSome (Some kept.told) (λ t. IsUnforgotten t.steps k × (clause_told t.steps k ≡ Some []))) → shown ≡ kept → IsUnforgotten shown.told.steps root.0
+replayable a root places after later kept shown is of same told view =
+    let root_is : later ≡ Some root.0 = same ∙ of ∙ ap root_of_answer is in
+    subst (λ (s : ChainStoreView). IsUnforgotten s.told.steps root.0) (sym view) (told root.0 root_is kept.told refl).0

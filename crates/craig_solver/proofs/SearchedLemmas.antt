@@ -5,7 +5,7 @@ use Rattle.std.proofs.lemmas.Bool.{cases_lt}
 use Rattle.std.proofs.lemmas.List.{get_or-map, length-map}
 use Rattle.std.proofs.lemmas.List.Elements.{All-weaker}
 use Rattle.craig_spec.specs.Literal.{Clause}
-use Rattle.craig_spec.specs.Chain.{Derived, SameLiterals, Told, ToldStep, IsUnforgotten}
+use Rattle.craig_spec.specs.Chain.{Derived, SameLiterals, Told, ToldStep, IsTold, IsUnforgotten, clause_told}
 use Rattle.craig_spec.specs.Needed.{IsOriginal}
 use Rattle.craig_spec.specs.Occurs.{Occurs, occurs_in_clause}
 use Rattle.craig_spec.specs.Truth.{Assignment, IsModel, clause_value}
@@ -147,18 +147,23 @@ root-unforgotten n assumptions root places t u is =
 some-same : (a b : ClauseId) → Some a ≡ Some b → a ≡ b
 some-same a b is = cc
 
-root-searched : (h n : HeldView) (assumptions : Assumptions) (v : Verdict) (before after : Option Told) → is_some after ≡ is_some before → IsToldOf h n assumptions v before after → IsRootOf after n.arena (root_of_verdict v)
-root-searched h n assumptions Model before after tells told id is = absurd (let no : None ≡ Some id = is in cc)
-root-searched h n assumptions (Failed root places) before after tells told id is = λ u at.
+-- a step that was told is found under its id
+abbrev pub StepsAreFound : Type 0
+StepsAreFound = (t : Told) (s : ToldStep) → IsTold t → Contains t.steps s → clause_told t.steps s.id ≡ Some s.literals
+
+root-searched : StepsAreFound → (h n : HeldView) (assumptions : Assumptions) (v : Verdict) (before after : Option Told) → is_some after ≡ is_some before → IsToldOf h n assumptions v before after → IsCovering after (held_clause n.arena) n.arena.given → IsRootOf after n.arena (root_of_verdict v)
+root-searched found h n assumptions Model before after tells told covers id is = absurd (let no : None ≡ Some id = is in cc)
+root-searched found h n assumptions (Failed root places) before after tells told covers id is = λ u at.
     let t = told-still before after u tells at in
     let r = (told t.0 u t.1 at).1 in
     let same = some-same root id is in
-    (subst (λ (x : ClauseId). IsUnforgotten u.steps x.0) same (root-unforgotten n assumptions root.0 places t.0 u r), subst (λ (x : ClauseId). held_clause n.arena x.0 ≡ None) same r.root_not_held)
-root-searched h n assumptions (Limit lemmas) before after tells told id is = absurd (let no : None ≡ Some id = is in cc)
+    let empty : clause_told u.steps root.0 ≡ Some [] = found u (record { id = root.0; literals = []; origin = Derived r.first r.rest; forgotten = false }) (covers u at).stand r.told in
+    (subst (λ (x : ClauseId). IsUnforgotten u.steps x.0) same (root-unforgotten n assumptions root.0 places t.0 u r), subst (λ (x : ClauseId). clause_told u.steps x.0 ≡ Some []) same empty, subst (λ (x : ClauseId). held_clause n.arena x.0 ≡ None) same r.root_not_held)
+root-searched found h n assumptions (Limit lemmas) before after tells told covers id is = absurd (let no : None ≡ Some id = is in cc)
 
 -- the state after a search, at level 0 again
-pub IsState-searched : ModelsOfArena → AreLookedUp → (before after : Option Told) (accepted : List (Part × Clause)) (h n m : HeldView) (o p : OrderView) (kept : List ClauseId) (old root : Option ClauseId) (assumptions : Assumptions) (limit : Option ℕ) (v : Verdict) → IsState before accepted h o kept old → assumptions ≡ [] → Leaves h n → IsVerdict h n assumptions limit v → IsToldOf h n assumptions v before after → is_some after ≡ is_some before → IsCovering after (held_clause n.arena) n.arena.given → root ≡ root_of_verdict v → IsAtRoot n m p → IsState after accepted m p kept root
-IsState-searched models looks_up before after accepted h n m o p kept old root assumptions limit v state none left is told tells covers root_is at_root = record {
+pub IsState-searched : ModelsOfArena → AreLookedUp → StepsAreFound → (before after : Option Told) (accepted : List (Part × Clause)) (h n m : HeldView) (o p : OrderView) (kept : List ClauseId) (old root : Option ClauseId) (assumptions : Assumptions) (limit : Option ℕ) (v : Verdict) → IsState before accepted h o kept old → assumptions ≡ [] → Leaves h n → IsVerdict h n assumptions limit v → IsToldOf h n assumptions v before after → is_some after ≡ is_some before → IsCovering after (held_clause n.arena) n.arena.given → root ≡ root_of_verdict v → IsAtRoot n m p → IsState after accepted m p kept root
+IsState-searched models looks_up found before after accepted h n m o p kept old root assumptions limit v state none left is told tells covers root_is at_root = record {
   level = at_root.level;
   consistent = at_root.consistent;
   ready = at_root.ready;
@@ -166,7 +171,7 @@ IsState-searched models looks_up before after accepted h n m o p kept old root a
   clauses = subst (λ (a : ArenaView). AreHeldFor accepted a m.vars) (sym at_root.arena) (subst (AreHeldFor accepted n.arena) (sym (at_root.vars ∙ left.vars)) (AreHeldFor-searched h n left models looks_up accepted h.vars state.consistent.arena state.clauses));
   kept_ids = subst (λ (a : ArenaView). AreKept a kept) (sym at_root.arena) (AreKept-searched h n left kept state.kept_ids);
   originals = originals-searched accepted h n assumptions limit none v before after tells is told state.originals;
-  root_of = subst (λ (r : Option ClauseId). IsRootOf after m.arena r) (sym root_is) (subst (λ (a : ArenaView). IsRootOf after a (root_of_verdict v)) (sym at_root.arena) (root-searched h n assumptions v before after tells told));
+  root_of = subst (λ (r : Option ClauseId). IsRootOf after m.arena r) (sym root_is) (subst (λ (a : ArenaView). IsRootOf after a (root_of_verdict v)) (sym at_root.arena) (root-searched found h n assumptions v before after tells told covers));
 }
 
 -- the held clauses after it

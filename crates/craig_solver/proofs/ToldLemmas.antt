@@ -5,7 +5,7 @@ use Rattle.std.proofs.lemmas.Bool.{or_left}
 use Rattle.std.proofs.lemmas.List.Folds.{list_any-append}
 use Rattle.std.proofs.lemmas.List.Elements.{All-contains, Contains-append_left, Contains-push, Contains-push_cases}
 use Rattle.craig_spec.specs.Literal.{Clause}
-use Rattle.craig_spec.specs.Chain.{SameLiterals, Told, ToldStep, IsUnforgotten, forgotten_at, with_step, without_id}
+use Rattle.craig_spec.specs.Chain.{SameLiterals, Told, ToldStep, IsUnforgotten, clause_told, forgotten_at, with_step, without_id}
 use Rattle.craig_spec.specs.Needed.{IsOriginal}
 use Rattle.craig_base.specs.Clauses.{IsNormal}
 use Rattle.craig_base.specs.declared.script_part.Part.{Part}
@@ -66,6 +66,15 @@ AreAccepted-original xs part written literals id before after all appends same n
 pub IsUnforgotten-step : (t : Told) (s : ToldStep) (id : ℕ) → IsUnforgotten t.steps id → IsUnforgotten (with_step t s).steps id
 IsUnforgotten-step t s id kept =
     list_any-append (λ r. eqb r.id id && not r.forgotten) t.steps (s ∷ []) ∙ or_left _ _ kept
+
+-- a clause that was told stays when a step is told
+pushed-cases : (r s : ToldStep) (steps : List ToldStep) (id : ℕ) (c : Clause) (b : Bool) → cond b (Some r.literals) (clause_told steps id) ≡ Some c → (clause_told steps id ≡ Some c → clause_told (steps ++ s ∷ []) id ≡ Some c) → cond b (Some r.literals) (clause_told (steps ++ s ∷ []) id) ≡ Some c
+pushed-cases r s steps id c true h later = h
+pushed-cases r s steps id c false h later = later h
+
+pub clause_told-pushed : (steps : List ToldStep) (s : ToldStep) (id : ℕ) (c : Clause) → clause_told steps id ≡ Some c → clause_told (steps ++ s ∷ []) id ≡ Some c
+clause_told-pushed [] s id c h = absurd (let no : None ≡ Some c = h in cc)
+clause_told-pushed (r ∷ steps) s id c h = pushed-cases r s steps id c (eqb r.id id) h (clause_told-pushed steps s id c)
 
 first-true : (a b : Bool) → (a && b) ≡ true → a ≡ true
 first-true true b h = refl

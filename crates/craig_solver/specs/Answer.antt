@@ -1,5 +1,5 @@
 -- What a solver answers.
-use Rattle.std.specs.Prelude.{◌≡◌, ℕ, List, ◌++◌, Option, Some, length}
+use Rattle.std.specs.Prelude.{◌≡◌, ℕ, List, ◌++◌, Option, Some, None, length}
 use Rattle.craig_spec.specs.Literal.{Clause}
 use Rattle.craig_spec.specs.Truth.{IsModel, AreContradictory}
 use Rattle.craig_base.specs.LemmaRule.{MeetsLemmaRule}
@@ -16,3 +16,9 @@ IsAnswer clauses vars assumptions limit (Failed root places) =
     AreFirstPlaces assumptions places × AreContradictory clauses (units (at_places assumptions places))
 IsAnswer clauses vars assumptions limit (Limit lemmas) =
     (limit ≡ Some (length lemmas)) × MeetsLemmaRule clauses lemmas
+
+-- the root that an answer has
+abbrev pub root_of_answer : Answer → Option ℕ
+root_of_answer (Model values) = None
+root_of_answer (Failed root places) = Some root.0
+root_of_answer (Limit lemmas) = None

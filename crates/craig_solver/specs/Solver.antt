@@ -1,5 +1,5 @@
 -- What a solver is seen as, and what its clauses stand for.
-use Rattle.std.specs.Prelude.{◌≡◌, ℕ, ◌<◌, Bool, List, Contains, IsTrue, length, map, slice_index_or}
+use Rattle.std.specs.Prelude.{◌≡◌, ℕ, ◌<◌, Bool, List, Option, Contains, IsTrue, length, map, slice_index_or}
 use Rattle.craig_spec.specs.Literal.{Clause}
 use Rattle.craig_spec.specs.Chain.{SameLiterals}
 use Rattle.craig_spec.specs.Truth.{Implies, clause_value}
@@ -7,12 +7,13 @@ use Rattle.craig_base.specs.Clauses.{IsTautology}
 use Rattle.craig_base.specs.LemmaRule.{ContainsClause}
 use Rattle.craig_base.specs.declared.script_part.Part.{Part}
 
--- the accepted clauses with their parts, how many variables are known, the held clauses that are not learnt, the tracer, and whether memory was refused
+-- the accepted clauses with their parts, how many variables are known, the held clauses that are not learnt, the tracer, the root of the last answer if that was a refutation, and whether memory was refused
 pub record SolverView (T : Type 0) : Type 0 where
   pub accepted : List (Part × Clause)
   pub vars : ℕ
   pub held : List Clause
   pub tracer : T
+  pub root : Option ℕ
   pub dead : Bool
 
 -- the accepted clauses without their parts

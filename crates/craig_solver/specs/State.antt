@@ -1,8 +1,8 @@
 -- What a solver keeps between calls.
-use Rattle.std.specs.Prelude.{◌≡◌, ℕ, ◌<◌, false, List, Option, Some, None, All, AllPairs, Contains, IsTrue, map}
-use Rattle.std.specs.Option.{ForSome}
+use Rattle.std.specs.Prelude.{◌≡◌, ℕ, ◌<◌, false, List, [], Option, Some, None, All, AllPairs, Contains, IsTrue, map}
+use Rattle.std.specs.Option.{ForSome, option_map}
 use Rattle.craig_spec.specs.Literal.{Clause}
-use Rattle.craig_spec.specs.Chain.{SameLiterals, Told, IsUnforgotten}
+use Rattle.craig_spec.specs.Chain.{SameLiterals, Told, IsUnforgotten, clause_told}
 use Rattle.craig_spec.specs.Occurs.{Occurs, occurs_in_clause}
 use Rattle.craig_spec.specs.Truth.{Implies, clause_value}
 use Rattle.craig_base.specs.Arena.{ArenaView, FlaggedClause, clause_at, literals_at}
@@ -41,9 +41,13 @@ pub record AreHeldFor (accepted : List (Part × Clause)) (a : ArenaView) (vars :
   pub implied : (id : ℕ) (c : Clause) → held_clause a id ≡ Some c → Implies (accepted_clauses accepted) (λ s. IsTrue (clause_value s c))
   pub variables : (id x : ℕ) (c : Clause) → held_clause a id ≡ Some c → IsTrue (occurs_in_clause x c) → Occurs x (accepted_clauses accepted)
 
--- where the meaning is told, the root, if there is one, isn't forgotten, and no clause is held under its id
+-- the number of a root
+abbrev pub root_number : Option ClauseId → Option ℕ
+root_number root = option_map (λ id. id.0) root
+
+-- where the meaning is told, the root, if there is one, isn't forgotten, its clause is empty, and no clause is held under its id
 abbrev pub IsRootOf : Option Told → ArenaView → Option ClauseId → Type 0
-IsRootOf told a root = (id : ClauseId) → root ≡ Some id → ForSome told (λ t. IsUnforgotten t.steps id.0 × (held_clause a id.0 ≡ None))
+IsRootOf told a root = (id : ClauseId) → root ≡ Some id → ForSome told (λ t. IsUnforgotten t.steps id.0 × (clause_told t.steps id.0 ≡ Some []) × (held_clause a id.0 ≡ None))
 
 -- what is true of a solver that isn't dead
 pub record IsState (told : Option Told) (accepted : List (Part × Clause)) (h : HeldView) (o : OrderView) (kept : List ClauseId) (root : Option ClauseId) : Type 0 where

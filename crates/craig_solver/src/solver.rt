@@ -1,8 +1,8 @@
 //! The incremental solver.
-ghost use Rattle.std.specs.Prelude.{◌≡◌, ◌≢◌, ◌<◌, ◌≤◌, [], ◌∷◌, ◌++◌, true, false, Some, None, All, IfOk, OnOk, OnErr, IsErr, is_some, length, max, slice_index_or};
+ghost use Rattle.std.specs.Prelude.{◌≡◌, ◌≢◌, ℕ, ◌<◌, ◌≤◌, [], ◌∷◌, ◌++◌, true, false, Some, None, All, IfOk, OnOk, OnErr, IsErr, is_some, length, max, slice_index_or};
 ghost use Rattle.std.specs.Option.{ForSome};
-ghost use Rattle.craig_spec.specs.Chain.{nothing_told};
-ghost use Rattle.craig_solver.specs.Answer.{IsAnswer};
+ghost use Rattle.craig_spec.specs.Chain.{IsUnforgotten, clause_told, nothing_told};
+ghost use Rattle.craig_solver.specs.Answer.{IsAnswer, root_of_answer};
 ghost use Rattle.craig_solver.specs.Solver.{AreReordered, StandFor, accepted_clauses};
 ghost use Rattle.craig_solver.specs.Told.{IsToldOf, TellsAnswer};
 
@@ -16,8 +16,9 @@ use std::marker::Model;
 /// An incremental solver over dense variables, with a tracer that is told its clauses.
 ///
 /// Contracts see the accepted clauses as they were written, each with its part, the number of known variables, the held
-/// clauses that are not learnt, the tracer, and whether memory was refused. After an `AllocError` the solver is dead:
-/// its accepted clauses are as before, and each later call that can answer `AllocError` does so.
+/// clauses that are not learnt, the tracer, the root of the last answer of `solve` if that was a refutation, and whether
+/// memory was refused. After an `AllocError` the solver is dead: its accepted clauses are as before, it shows no root, and
+/// each later call that can answer `AllocError` does so.
 #[derive(Drop)]
 pub struct Solver<T: Tracer> {
     state: State<T>,
@@ -25,13 +26,13 @@ pub struct Solver<T: Tracer> {
 }
 
 impl<T: Tracer> Model for Solver<T> {
-    ghost use Rattle.std.specs.Prelude.{◌≡◌, false, [], if◌then◌else◌};
+    ghost use Rattle.std.specs.Prelude.{◌≡◌, false, [], None, if◌then◌else◌};
     ghost use Rattle.craig_solver.specs.Solver.{SolverView};
-    ghost use Rattle.craig_solver.specs.State.{IsState, clauses_under};
+    ghost use Rattle.craig_solver.specs.State.{IsState, clauses_under, root_number};
 
     ghost Value = { SolverView T };
 
-    ghost view = { λ s. record { accepted = s.state.accepted.items; vars = s.state.held.vars; held = if s.dead then [] else clauses_under s.state.held.arena s.state.kept.items; tracer = s.state.tracer; dead = s.dead } };
+    ghost view = { λ s. record { accepted = s.state.accepted.items; vars = s.state.held.vars; held = if s.dead then [] else clauses_under s.state.held.arena s.state.kept.items; tracer = s.state.tracer; root = if s.dead then None else root_number s.state.root; dead = s.dead } };
 
     ghost invariant = { λ s. s.dead ≡ false → IsState (T.told s.state.tracer) s.state.accepted.items s.state.held s.state.order s.state.kept.items s.state.root };
 }
@@ -41,7 +42,7 @@ impl<T: Tracer> Solver<T> {
     /// told nothing yet.
     pub fn new(alloc: Global, tracer: T) -> Solver<T>
         requires { ForSome (T.told tracer) (λ t. t ≡ nothing_told) }
-        ensures { result ≡ record { accepted = []; vars = 0; held = []; tracer = tracer; dead = false } }
+        ensures { result ≡ record { accepted = []; vars = 0; held = []; tracer = tracer; root = None; dead = false } }
     {
         Solver {
             state: State::new(alloc, tracer),
@@ -76,6 +77,7 @@ impl<T: Tracer> Solver<T> {
         ensures vars { OnOk result (self.new.vars ≡ self.old.vars) }
         ensures alive { OnOk result (self.new.dead ≡ false) }
         ensures unchanged { OnErr result (self.new.accepted ≡ self.old.accepted) }
+        ensures root { OnOk result (self.new.root ≡ self.old.root) }
         ensures dead { OnErr result (self.new.dead ≡ true) }
         ensures refused { self.old.dead ≡ true → IsErr result }
         ensures tells { is_some (T.told self.new.tracer) ≡ is_some (T.told self.old.tracer) }
@@ -94,9 +96,9 @@ impl<T: Tracer> Solver<T> {
     ///
     /// Each assumption is a literal of a known variable, in a part. The answer is a model; or assumptions, by their
     /// places, that no assignment makes true together with the accepted clauses; or as many learnt clauses as `limit`
-    /// says, which is not 0. A tracer that tells its meaning was then told the empty clause of a refutation, which
-    /// rests on accepted clauses and on the units of these assumptions alone. The accepted clauses stay, and the held
-    /// ones may change the order of their literals.
+    /// says, which is not 0. A tracer that tells its meaning was then told the empty clause of a refutation, its root,
+    /// which rests on accepted clauses and on the units of these assumptions alone. The root of the answer before is
+    /// forgotten. The accepted clauses stay, and the held ones may change the order of their literals.
     ///
     /// No assumption and no limit can be given yet.
     pub fn solve(
@@ -110,6 +112,8 @@ impl<T: Tracer> Solver<T> {
         requires no_limit { limit ≡ None }
         ensures answer { IfOk result (IsAnswer (accepted_clauses self.old.accepted) self.old.vars assumptions.now limit) }
         ensures told { IfOk result (λ a. ForSome (T.told self.new.tracer) (TellsAnswer self.old.accepted assumptions.now a)) }
+        ensures root { IfOk result (λ a. self.new.root ≡ root_of_answer a) }
+        ensures forgets { OnOk result ((root : ℕ) → self.old.root ≡ Some root → ForSome (T.told self.new.tracer) (λ t. ¬ IsUnforgotten t.steps root)) }
         ensures accepted { self.new.accepted ≡ self.old.accepted }
         ensures vars { OnOk result (self.new.vars ≡ self.old.vars) }
         ensures held { OnOk result (AreReordered self.old.held self.new.held) }
@@ -165,11 +169,14 @@ impl<T: Tracer> Solver<T> {
         self.state.held.arena().lits(id)
     }
 
-    /// The tracer. Where it tells its meaning, the steps that it keeps stand on one another, and each original is an
-    /// accepted clause.
+    /// The tracer. Where it tells its meaning, the steps that it keeps stand on one another, each original is an
+    /// accepted clause, and the root of the last answer, if that was a refutation, is an empty clause that isn't
+    /// forgotten.
     pub fn tracer(&self) -> &T
         ensures value { result.now ≡ self.now.tracer }
         ensures told { self.now.dead ≡ false → ForSome (T.told self.now.tracer) (IsToldOf self.now.accepted) }
+        ensures root { (root : ℕ) → self.now.root ≡ Some root → ForSome (T.told self.now.tracer) (λ t. IsUnforgotten t.steps root × (clause_told t.steps root ≡ Some [])) }
+        ensures dead { self.now.dead ≡ true → self.now.root ≡ None }
     {
         &self.state.tracer
     }
@@ -222,6 +229,7 @@ mod tests {
             panic!(rt; "no assignment makes all four true");
         };
         assert!(rt; places.as_slice().is_empty());
+        solver.add(Part(2), &[v0])?;
         let mut part = ChainStore::new(rt.alloc());
         solver.tracer().replay(root, &mut part)?;
         let Answer::Failed { root: again, .. } = solver.solve(&[], None)? else {

@@ -1,13 +1,13 @@
 //! What a solver keeps.
-ghost use Rattle.std.specs.Prelude.{◌≡◌, ◌≢◌, ◌<◌, ◌≤◌, [], ◌∷◌, ◌++◌, Some, None, All, IfOk, OnOk, OnErr, is_some, max};
+ghost use Rattle.std.specs.Prelude.{◌≡◌, ◌≢◌, ℕ, ◌<◌, ◌≤◌, [], ◌∷◌, ◌++◌, Some, None, All, IfOk, OnOk, OnErr, is_some, max};
 ghost use Rattle.std.specs.Option.{ForSome, option_map};
 ghost use Rattle.craig_spec.specs.Literal.{Clause};
-ghost use Rattle.craig_spec.specs.Chain.{SameLiterals, nothing_told, without_id};
+ghost use Rattle.craig_spec.specs.Chain.{SameLiterals, IsUnforgotten, nothing_told, without_id};
 ghost use Rattle.craig_base.specs.declared.clause_id.ClauseId.{ClauseId};
 ghost use Rattle.craig_base.specs.Clauses.{IsNormal};
-ghost use Rattle.craig_solver.specs.Answer.{IsAnswer};
+ghost use Rattle.craig_solver.specs.Answer.{IsAnswer, root_of_answer};
 ghost use Rattle.craig_solver.specs.Solver.{AreReordered, accepted_clauses};
-ghost use Rattle.craig_solver.specs.State.{IsState, clauses_under};
+ghost use Rattle.craig_solver.specs.State.{IsState, clauses_under, root_number};
 ghost use Rattle.craig_solver.specs.Told.{TellsAnswer};
 
 use crate::Answer;
@@ -17,7 +17,7 @@ use craig_base::{
     ClauseId, Flags, Lit, Lits, Normal, Part, clauses_are_found, models_of_an_arena, normal,
 };
 use craig_order::Order;
-use craig_proof::{Tracer, covered_chain_is_told, covering_is_kept};
+use craig_proof::{Tracer, covered_chain_is_told, covering_is_kept, steps_are_found};
 use craig_search::search;
 use craig_watch::Held;
 use std::alloc::{AllocError, Global};
@@ -51,6 +51,7 @@ impl<T: Tracer> State<T> {
         ensures vars { result.held.vars ≡ 0 }
         ensures kept { result.kept.items ≡ [] }
         ensures tracer { result.tracer ≡ tracer }
+        ensures root { result.root ≡ None }
     {
         covering_is_kept();
         State {
@@ -73,6 +74,7 @@ impl<T: Tracer> State<T> {
         ensures kept { self.new.kept.items ≡ self.old.kept.items }
         ensures accepted { self.new.accepted.items ≡ self.old.accepted.items }
         ensures tracer { self.new.tracer ≡ self.old.tracer }
+        ensures root { self.new.root ≡ self.old.root }
     {
         self.held.grow(vars)?;
         self.order.grow(vars)
@@ -86,6 +88,7 @@ impl<T: Tracer> State<T> {
         ensures vars { OnOk result (self.new.held.vars ≡ self.old.held.vars) }
         ensures accepted { OnOk result (self.new.accepted.items ≡ self.old.accepted.items ++ (part, lits.now) ∷ []) }
         ensures unchanged { OnErr result (self.new.accepted.items ≡ self.old.accepted.items) }
+        ensures root { self.new.root ≡ self.old.root }
         ensures tells { is_some (T.told self.new.tracer) ≡ is_some (T.told self.old.tracer) }
         ensures same { T.kept self.new.tracer ≡ T.kept self.old.tracer }
     {
@@ -102,6 +105,7 @@ impl<T: Tracer> State<T> {
         ensures state { OnOk result (IsState (T.told self.new.tracer) (self.old.accepted.items ++ (part, lits.now) ∷ []) self.new.held self.new.order self.new.kept.items self.new.root) }
         ensures vars { OnOk result (self.new.held.vars ≡ self.old.held.vars) }
         ensures accepted { self.new.accepted.items ≡ self.old.accepted.items }
+        ensures root { self.new.root ≡ self.old.root }
         ensures tells { is_some (T.told self.new.tracer) ≡ is_some (T.told self.old.tracer) }
         ensures same { T.kept self.new.tracer ≡ T.kept self.old.tracer }
     {
@@ -119,6 +123,7 @@ impl<T: Tracer> State<T> {
         ensures state { OnOk result ((written : Clause) → SameLiterals written lits.now → IsState (T.told self.new.tracer) (self.old.accepted.items ++ (part, written) ∷ []) self.new.held self.new.order self.new.kept.items self.new.root) }
         ensures vars { OnOk result (self.new.held.vars ≡ self.old.held.vars) }
         ensures accepted { self.new.accepted.items ≡ self.old.accepted.items }
+        ensures root { self.new.root ≡ self.old.root }
         ensures tells { is_some (T.told self.new.tracer) ≡ is_some (T.told self.old.tracer) }
         ensures same { T.kept self.new.tracer ≡ T.kept self.old.tracer }
     {
@@ -144,6 +149,8 @@ impl<T: Tracer> State<T> {
         ensures state { OnOk result (IsState (T.told self.new.tracer) self.new.accepted.items self.new.held self.new.order self.new.kept.items self.new.root) }
         ensures answer { IfOk result (IsAnswer (accepted_clauses self.old.accepted.items) self.old.held.vars assumptions.now limit) }
         ensures told { IfOk result (λ a. ForSome (T.told self.new.tracer) (TellsAnswer self.old.accepted.items assumptions.now a)) }
+        ensures root { IfOk result (λ a. root_number self.new.root ≡ root_of_answer a) }
+        ensures forgets { OnOk result ((root : ℕ) → root_number self.old.root ≡ Some root → ForSome (T.told self.new.tracer) (λ t. ¬ IsUnforgotten t.steps root)) }
         ensures vars { OnOk result (self.new.held.vars ≡ self.old.held.vars) }
         ensures held { OnOk result (AreReordered (clauses_under self.old.held.arena self.old.kept.items) (clauses_under self.new.held.arena self.new.kept.items)) }
         ensures accepted { self.new.accepted.items ≡ self.old.accepted.items }
@@ -152,6 +159,7 @@ impl<T: Tracer> State<T> {
     {
         clauses_are_found();
         models_of_an_arena();
+        steps_are_found();
         let alloc = *self.accepted.allocator();
         self.forget_root();
         let held = &mut self.held;

@@ -1,0 +1,98 @@
+-- The root of the last refutation, and what becomes of it.
+use Rattle.std.proofs.Common.{◌≡◌, inl, inr, ℕ, ◌<◌, ◌≤◌, ◌⊎◌, Bool, true, false, cond, not, ◌&&◌, ◌||◌, eqb, List, [], ◌∷◌, map, Contains, Option, Some, None, refl, sym, ap, subst, ◌∙◌, arith}
+use Rattle.std.specs.List.{list_any}
+use Rattle.std.specs.Option.{ForSome, is_some, option_map}
+use Rattle.craig_spec.specs.Literal.{Clause}
+use Rattle.craig_spec.specs.Chain.{Told, ToldStep, IsUnforgotten, clause_told, forgotten_at, without_id}
+use Rattle.craig_base.specs.declared.clause_id.ClauseId.{ClauseId}
+use Rattle.craig_base.specs.declared.script_part.Part.{Part}
+use Rattle.craig_watch.specs.Held.{HeldView, held_clause}
+use Rattle.craig_order.specs.Order.{OrderView}
+use Rattle.craig_search.specs.declared.verdict.Verdict.{Verdict}
+use Rattle.craig_search.specs.declared.verdict.Verdict.TheVariants as verdict
+use Rattle.craig_search.specs.Tells.{IsToldOf, TellsVerdict, WasTold}
+use Rattle.craig_search.specs.Verdict.{Assumptions}
+use Rattle.craig_solver.specs.declared.answer.Answer.{Answer}
+use Rattle.craig_solver.specs.declared.answer.Answer.TheVariants as answer
+use Rattle.craig_solver.specs.Answer.{root_of_answer}
+use Rattle.craig_solver.specs.Settling.{IsAnswerFor, root_of_verdict}
+use Rattle.craig_solver.specs.State.{IsState, root_number}
+use Rattle.craig_solver.proofs.SearchedLemmas.{told-still}
+use Rattle.craig_solver.proofs.ToldLemmas.{unforgotten-below}
+
+-- the root that a solver keeps is that of its answer
+root_of-cases : (h : HeldView) (v : Verdict) (a : Answer) → IsAnswerFor h v a → root_number (root_of_verdict v) ≡ root_of_answer a
+root_of-cases h verdict.Model (answer.Model values) for = refl
+root_of-cases h verdict.Model (answer.Failed root places) for = absurd for
+root_of-cases h verdict.Model (answer.Limit lemmas) for = absurd for
+root_of-cases h (verdict.Failed root places) a for = sym (ap root_of_answer for)
+root_of-cases h (verdict.Limit lemmas) a for = sym (ap root_of_answer for)
+
+pub root_of-answer : (h : HeldView) (v : Verdict) (a : Answer) (root : Option ClauseId) → root ≡ root_of_verdict v → IsAnswerFor h v a → root_number root ≡ root_of_answer a
+root_of-answer h v a root is for = ap root_number is ∙ root_of-cases h v a for
+
+number-is : (root : Option ClauseId) (n : ℕ) → root_number root ≡ Some n → (id : ClauseId) × (root ≡ Some id) × (id.0 ≡ n)
+number-is None n h = absurd (let no : None ≡ Some n = h in cc)
+number-is (Some id) n h = (id, refl, let same : Some id.0 ≡ Some n = h in cc)
+
+-- after an id is forgotten no step of it is left that isn't
+gone-cases : (id : ℕ) (s : ToldStep) (rest : List ToldStep) (b : Bool) → eqb s.id id ≡ b → list_any (λ (q : ToldStep). eqb q.id id && not q.forgotten) rest ≡ false → (eqb (cond b (record { id = s.id; literals = s.literals; origin = s.origin; forgotten = true }) s).id id && not (cond b (record { id = s.id; literals = s.literals; origin = s.origin; forgotten = true }) s).forgotten || list_any (λ (q : ToldStep). eqb q.id id && not q.forgotten) rest) ≡ false
+gone-cases id s rest true e none = rw (e, none) refl
+gone-cases id s rest false e none = rw (e, none) refl
+
+gone : (id : ℕ) (steps : List ToldStep) → list_any (λ (q : ToldStep). eqb q.id id && not q.forgotten) (map (forgotten_at id) steps) ≡ false
+gone id [] = refl
+gone id (s ∷ steps) = gone-cases id s (map (forgotten_at id) steps) (eqb s.id id) refl (gone id steps)
+
+-- what was told before the id was forgotten
+told-before : (before after : Option Told) (id : ℕ) (u : Told) → after ≡ option_map (without_id id) before → after ≡ Some u → (t : Told) × (before ≡ Some t) × (u ≡ without_id id t)
+told-before None after id u is at = absurd (let no : None ≡ Some u = sym is ∙ at in cc)
+told-before (Some t) after id u is at = (t, refl, let same : Some (without_id id t) ≡ Some u = sym is ∙ at in cc)
+
+not-true : (b : Bool) → (b ≡ true → ⊥) → b ≡ false
+not-true true never = absurd (never refl)
+not-true false never = refl
+
+-- a step of an id that isn't forgotten, and the other way round
+abbrev pub HasStep : Type 0
+HasStep = (steps : List ToldStep) (id : ℕ) → IsUnforgotten steps id → (s : ToldStep) × Contains steps s × (s.id ≡ id) × (s.forgotten ≡ false)
+
+abbrev pub StepIsKept : Type 0
+StepIsKept = (steps : List ToldStep) (s : ToldStep) → Contains steps s → s.forgotten ≡ false → IsUnforgotten steps s.id
+
+-- each step was told before or has an id of the search
+told-steps : (h n : HeldView) (assumptions : Assumptions) (v : Verdict) (t u : Told) → TellsVerdict h n assumptions v t u → (s : ToldStep) → Contains u.steps s → WasTold t s ⊎ (h.arena.given ≤ s.id)
+told-steps h n assumptions verdict.Model t u told s here = elim (told.steps s here) [ inl was ↦ inl was | inr of ↦ inr of.later ]
+told-steps h n assumptions (verdict.Failed root places) t u told s here = elim (told.0.steps s here) [ inl was ↦ inl was | inr of ↦ inr of.later ]
+told-steps h n assumptions (verdict.Limit lemmas) t u told s here = elim (told.steps s here) [ inl was ↦ inl was | inr of ↦ inr of.later ]
+
+-- so what was forgotten stays so
+stays-forgotten : HasStep → StepIsKept → (given id : ℕ) (t u : Told) → ((s : ToldStep) → Contains u.steps s → WasTold t s ⊎ (given ≤ s.id)) → id < given → (IsUnforgotten t.steps id → ⊥) → IsUnforgotten u.steps id → ⊥
+stays-forgotten has is_kept given id t u steps low never kept =
+    let m = has u.steps id kept in
+    elim (steps m.0 m.1) [
+      | inl was ↦ never (subst (IsUnforgotten t.steps) (was.2 ∙ m.2) (is_kept t.steps was.0 was.1 (not-true was.0.forgotten (λ f. let no : true ≡ false = sym (was.5 f) ∙ m.3 in cc))))
+      | inr later ↦ omega (arith, later, m.2, low)
+    ]
+
+-- the root before a search is forgotten after it
+pub root-forgotten : HasStep → StepIsKept → (before mid after : Option Told) (accepted : List (Part × Clause)) (h g n : HeldView) (o : OrderView) (kept : List ClauseId) (root : Option ClauseId) (assumptions : Assumptions) (v : Verdict) → IsState before accepted h o kept root → ((id : ClauseId) → root ≡ Some id → mid ≡ option_map (without_id id.0) before) → g ≡ h → is_some after ≡ is_some mid → IsToldOf g n assumptions v mid after → (k : ℕ) → root_number root ≡ Some k → ForSome after (λ t. IsUnforgotten t.steps k → ⊥)
+root-forgotten has is_kept before mid after accepted h g n o kept root assumptions v state forgotten same tells told k number u at live =
+    let id = number-is root k number in
+    let m = told-still mid after u tells at in
+    let t = told-before before mid id.0.0 m.0 (forgotten id.0 id.1) m.1 in
+    let below : id.0.0 < h.arena.given = unforgotten-below t.0 (held_clause h.arena) h.arena.given id.0.0 (state.covers t.0 t.1) (state.root_of id.0 id.1 t.0 t.1).0 in
+    let low : k < g.arena.given = subst (λ (b : HeldView). k < b.arena.given) (sym same) (subst (λ (x : ℕ). x < h.arena.given) id.2 below) in
+    let never : IsUnforgotten m.0.steps k → ⊥ = λ was.
+    let none : list_any (λ (q : ToldStep). eqb q.id id.0.0 && not q.forgotten) m.0.steps ≡ false = ap (λ (w : Told). list_any (λ (q : ToldStep). eqb q.id id.0.0 && not q.forgotten) w.steps) t.2 ∙ gone id.0.0 t.0.steps in
+    let no : false ≡ true = sym none ∙ subst (IsUnforgotten m.0.steps) (sym id.2) was in
+    cc in
+    stays-forgotten has is_kept g.arena.given k m.0 u (told-steps g n assumptions v m.0 u (told m.0 u m.1 at)) low never live
+
+-- the root of a solver is an empty clause that isn't forgotten
+pub root-told : (dead : Bool) (told : Option Told) (accepted : List (Part × Clause)) (h : HeldView) (o : OrderView) (kept : List ClauseId) (root : Option ClauseId) → (dead ≡ false → IsState told accepted h o kept root) → (k : ℕ) → cond dead None (root_number root) ≡ Some k → ForSome told (λ t. IsUnforgotten t.steps k × (clause_told t.steps k ≡ Some []))
+root-told true told accepted h o kept root state k is = absurd (let no : None ≡ Some k = is in cc)
+root-told false told accepted h o kept root state k is = λ t at.
+    let id = number-is root k is in
+    let r = (state refl).root_of id.0 id.1 t at in
+    subst (λ (x : ℕ). IsUnforgotten t.steps x × (clause_told t.steps x ≡ Some [])) id.2 (r.0, r.1)

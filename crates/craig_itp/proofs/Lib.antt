@@ -1,0 +1,16 @@
+pub mod ChainEdgeLemmas
+pub mod CutTracerLemmas
+pub mod CutsLemmas
+pub mod ExampleLemmas
+pub mod GrowthLemmas
+pub mod InterpolationLemmas
+pub mod JoinLemmas
+pub mod LeafLemmas
+pub mod NeededPartLemmas
+pub mod PartialValuesLemmas
+pub mod SequenceLemmas
+pub mod SharedLemmas
+pub mod StandingLemmas
+pub mod StepEdgeLemmas
+pub mod ToldEdgesLemmas
+pub mod TwoLabellingsLemmas

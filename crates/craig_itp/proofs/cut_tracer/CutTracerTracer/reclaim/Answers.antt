@@ -1,0 +1,5 @@
+use Rattle.craig_itp.proofs.CutTracerLemmas.{Reclaims-nothing}
+use Rattle.craig_itp.proofs.cut_tracer.CutTracerTracer.reclaim.Goals as goal
+
+pub returns-clause-told : goal.returns-clause-told
+returns-clause-told g c = λ t e. (t, e, Reclaims-nothing t)

@@ -1,0 +1,57 @@
+-- Which edges are interpolants of a refutation.
+use Rattle.std.specs.Prelude.{◌≡◌, ◌<◌, ◌≤◌, ◌+◌, true, false, ℕ, List, length, slice_get, Some, Contains, IsTrue}
+use Rattle.craig_spec.specs.Truth.{Assignment}
+use Rattle.craig_spec.specs.Occurs.{occurs_in_clause}
+use Rattle.craig_spec.specs.Chain.{Original, ToldStep}
+use Rattle.craig_spec.specs.Needed.{IsNeeded}
+use Rattle.craig_spec.specs.PartialInterpolant.{Label, partial_interpolant}
+use Rattle.craig_label.specs.Sides.{Range, SidesView, range_of, side_at}
+use Rattle.craig_label.specs.declared.side.Side.TheVariants.{Shared}
+use Rattle.craig_aig.specs.Edges.{Edge}
+use Rattle.craig_aig.specs.Values.{edge_value}
+use Rattle.craig_aig.specs.Cones.{cone}
+use Rattle.craig_aig.specs.Conjunctions.{constant_edge}
+use Rattle.craig_aig.specs.declared.node.Node.{Node}
+use Rattle.craig_system.specs.Rules.{labelling}
+
+-- the variable was noted in the part, or in parts before and after it
+abbrev pub Spans : SidesView → ℕ → ℕ → Type 0
+Spans sides x part = (r : Range) × (range_of sides x ≡ Some r) × (r.first ≤ part) × (part ≤ r.last)
+
+-- the sides have noted each variable of an original in its part
+abbrev pub IsNotedStep : SidesView → ToldStep → Type 0
+IsNotedStep sides step = (part x : ℕ) → step.origin ≡ Original part → IsTrue (occurs_in_clause x step.literals) → Spans sides x part
+
+-- so they have for each step
+abbrev pub AreNoted : SidesView → List ToldStep → Type 0
+AreNoted sides steps = (step : ToldStep) → Contains steps step → IsNotedStep sides step
+
+-- so they have for each step that the root needs
+abbrev pub NeededAreNoted : SidesView → List ToldStep → ℕ → Type 0
+NeededAreNoted sides steps root = (step : ToldStep) → Contains steps step → IsNeeded steps root step.id → IsNotedStep sides step
+
+-- the originals that the root needs are of parts from 1 to the last one
+abbrev pub NeededHaveParts : ℕ → List ToldStep → ℕ → Type 0
+NeededHaveParts parts steps root = (step : ToldStep) (part : ℕ) → Contains steps step → IsNeeded steps root step.id → step.origin ≡ Original part → (1 ≤ part) × (part ≤ parts)
+
+-- the edge has the value of the partial interpolant of the clause under the id
+abbrev pub HasPartialValue : SidesView → ℕ → (ℕ → Label) → List ToldStep → ℕ → List Node → Edge → Type 0
+HasPartialValue sides cut marks steps id nodes e = (s : Assignment) → edge_value s nodes e ≡ partial_interpolant (labelling sides cut marks) steps id s
+
+-- each variable that the edge reaches occurs on both sides of the cut
+abbrev pub HasSharedInputs : SidesView → ℕ → List Node → Edge → Type 0
+HasSharedInputs sides cut nodes e = (x : ℕ) → Contains (cone nodes e) x → side_at sides cut x ≡ Shared
+
+-- the edge of the arena is the interpolant of the refutation at the cut
+pub record IsInterpolant (sides : SidesView) (cut : ℕ) (marks : ℕ → Label) (steps : List ToldStep) (root : ℕ) (nodes : List Node) (e : Edge) : Type 0 where
+  pub within : e.place < length nodes
+  pub value : HasPartialValue sides cut marks steps root nodes e
+  pub inputs : HasSharedInputs sides cut nodes e
+
+-- there is an interpolant for each cut, from 0 to the number of parts, all of the one refutation
+pub record AreInterpolants (sides : SidesView) (marks : ℕ → Label) (steps : List ToldStep) (root : ℕ) (nodes : List Node) (edges : List Edge) : Type 0 where
+  pub count : length edges ≡ sides.parts + 1
+  pub each : (cut : ℕ) (e : Edge) → slice_get edges cut ≡ Some e → IsInterpolant sides cut marks steps root nodes e
+  -- at the outer cuts they are the constants
+  pub first : NeededHaveParts sides.parts steps root → slice_get edges 0 ≡ Some (constant_edge true)
+  pub last : NeededHaveParts sides.parts steps root → slice_get edges sides.parts ≡ Some (constant_edge false)

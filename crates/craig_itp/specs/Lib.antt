@@ -1,0 +1,4 @@
+pub mod CutTracer
+pub mod Interpolants
+pub mod Labellings
+pub mod StepEdges

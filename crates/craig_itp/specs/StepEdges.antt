@@ -1,0 +1,65 @@
+-- The edges that a tracer built for the steps that it was told.
+use Rattle.std.specs.Prelude.{◌≡◌, ◌⊎◌, ◌<◌, ◌≤◌, ℕ, Bool, List, Contains, IsTrue, length, map, take, if◌then◌else◌}
+use Rattle.craig_spec.specs.Literal.{Clause}
+use Rattle.craig_spec.specs.Occurs.{occurs_in_clause}
+use Rattle.craig_spec.specs.Truth.{Assignment}
+use Rattle.craig_spec.specs.Chain.{ChainStep, Original, ToldStep}
+use Rattle.craig_spec.specs.PartialInterpolant.{Label, A, AB, B, Labelling, leaf_a_value, leaf_b_value, chain_value, partial_interpolant}
+use Rattle.craig_aig.specs.Arenas.{IsArena}
+use Rattle.craig_aig.specs.Cones.{cone}
+use Rattle.craig_aig.specs.Edges.{Edge}
+use Rattle.craig_aig.specs.Growth.{KeepsEdges}
+use Rattle.craig_aig.specs.Values.{edge_value}
+use Rattle.craig_aig.specs.declared.node.Node.{Node}
+use Rattle.craig_itp.specs.declared.step_edge.StepEdge.{StepEdge}
+
+-- one of the steps has the id
+abbrev pub HasEdge : List StepEdge → ℕ → Type 0
+HasEdge edges id = (e : StepEdge) × Contains edges e × (e.id.0 ≡ id)
+
+-- what a variable of an original is labelled where the rules let it into the edge of the clause: as one of the other side
+abbrev pub crossing_label : Bool → Label
+crossing_label on_side_a = if on_side_a then B else A
+
+-- the edge has the value of an original of the part, and reaches variables of the clause alone that are labelled as ones of the other side
+pub record IsLeafEdge (l : Labelling) (part : ℕ) (c : Clause) (nodes : List Node) (e : Edge) : Type 0 where
+  pub value : (s : Assignment) → edge_value s nodes e ≡ (if l.on_side_a part then leaf_a_value l.label s c else leaf_b_value l.label s c)
+  pub inputs : (x : ℕ) → Contains (cone nodes e) x → IsTrue (occurs_in_clause x c) × (l.label x ≡ crossing_label (l.on_side_a part))
+
+-- one of the edges reaches the variable
+pub record IsReached (edges : List StepEdge) (nodes : List Node) (x : ℕ) : Type 0 where
+  pub step : StepEdge
+  pub known : Contains edges step
+  pub reached : Contains (cone nodes step.edge) x
+
+-- whatever values the ids have that the edges of the old arena have, the edge has the value of the chain; it reaches what those edges reach, and variables labelled AB
+pub record IsChainEdge (label : ℕ → Label) (edges : List StepEdge) (old : List Node) (first : ℕ) (rest : List ChainStep) (nodes : List Node) (e : Edge) : Type 0 where
+  pub value : (s : Assignment) (value : ℕ → Bool) → ((step : StepEdge) → Contains edges step → edge_value s old step.edge ≡ value step.id.0) → edge_value s nodes e ≡ chain_value label s value (value first) rest
+  pub inputs : (x : ℕ) → Contains (cone nodes e) x → (label x ≡ AB) ⊎ IsReached edges old x
+
+-- the variable is one of an original, and labelled as one of the other side
+pub record Crosses (l : Labelling) (steps : List ToldStep) (x : ℕ) : Type 0 where
+  pub step : ToldStep
+  pub part : ℕ
+  pub told : Contains steps step
+  pub original : step.origin ≡ Original part
+  pub occurs : IsTrue (occurs_in_clause x step.literals)
+  pub label_is : l.label x ≡ crossing_label (l.on_side_a part)
+
+-- the rules let the variable into edges
+abbrev pub MayEnter : Labelling → List ToldStep → ℕ → Type 0
+MayEnter l steps x = (l.label x ≡ AB) ⊎ Crosses l steps x
+
+-- the edge is one of the arena for the clause under the id: it has its partial value, and reaches variables alone that the rules let in
+pub record IsEdgeOf (l : Labelling) (steps : List ToldStep) (nodes : List Node) (id : ℕ) (e : Edge) : Type 0 where
+  pub within : e.place < length nodes
+  pub value : (s : Assignment) → edge_value s nodes e ≡ partial_interpolant l steps id s
+  pub inputs : (x : ℕ) → Contains (cone nodes e) x → MayEnter l steps x
+
+-- what a tracer keeps: an arena whose first nodes are the older ones, whose edges it keeps, and for each told step at the same place its edge
+pub record AreEdges (l : Labelling) (steps : List ToldStep) (older : ℕ) (nodes : List Node) (edges : List StepEdge) : Type 0 where
+  pub is_arena : IsArena nodes
+  pub within : older ≤ length nodes
+  pub kept : KeepsEdges (take older nodes) nodes
+  pub ids : map (λ (e : StepEdge). e.id.0) edges ≡ map (λ (s : ToldStep). s.id) steps
+  pub each : (e : StepEdge) → Contains edges e → IsEdgeOf l steps nodes e.id.0 e.edge

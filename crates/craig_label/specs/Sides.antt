@@ -1,0 +1,64 @@
+-- In which parts variables occur, and on which side of a cut.
+use Rattle.std.specs.Prelude.{◌≡◌, ℕ, ◌≤◌, Bool, false, List, nat_eq, nat_le, nat_lt, min, max, Option, Some, None, slice_index_or, if◌then◌else◌}
+use Rattle.craig_label.specs.declared.side.Side.{Side}
+use Rattle.craig_label.specs.declared.side.Side.TheVariants.{ALocal, Shared, BLocal, Absent}
+
+-- the first and the last part that a variable was noted in
+pub record Range : Type 0 where
+  pub first : ℕ
+  pub last : ℕ
+
+-- the number of parts, and the range of each variable, if it has one; variables past the end have none
+pub record SidesView : Type 0 where
+  pub parts : ℕ
+  pub ranges : List (Option Range)
+
+-- the range of a variable
+abbrev pub range_of : SidesView → ℕ → Option Range
+range_of sides x = slice_index_or sides.ranges x None
+
+-- a range is of parts from 1 to the last one
+pub record IsRange (parts : ℕ) (r : Range) : Type 0 where
+  pub first : 1 ≤ r.first
+  pub ordered : r.first ≤ r.last
+  pub last : r.last ≤ parts
+
+-- each range is one of the parts, and there is a part
+pub record IsSides (sides : SidesView) : Type 0 where
+  pub parts : 1 ≤ sides.parts
+  pub ranges : (x : ℕ) (r : Range) → range_of sides x ≡ Some r → IsRange sides.parts r
+
+-- the range with one part more
+abbrev pub widened : Option Range → ℕ → Range
+widened None part = record { first = part; last = part }
+widened (Some r) part = record { first = min r.first part; last = max r.last part }
+
+-- the variable was noted in the part, and all else is as it was
+pub record IsNoted (old : SidesView) (x part : ℕ) (new : SidesView) : Type 0 where
+  pub parts : new.parts ≡ old.parts
+  pub ranges : (y : ℕ) → range_of new y ≡ (if nat_eq y x then Some (widened (range_of old x) part) else range_of old y)
+
+-- a part up to the cut has a variable of the range
+abbrev pub is_in_a : ℕ → Option Range → Bool
+is_in_a cut None = false
+is_in_a cut (Some r) = nat_le r.first cut
+
+-- a part after the cut has a variable of the range
+abbrev pub is_in_b : ℕ → Option Range → Bool
+is_in_b cut None = false
+is_in_b cut (Some r) = nat_lt cut r.last
+
+-- the variable occurs on side A of the cut, and on side B
+abbrev pub occurs_in_a : SidesView → ℕ → ℕ → Bool
+occurs_in_a sides cut x = is_in_a cut (range_of sides x)
+
+abbrev pub occurs_in_b : SidesView → ℕ → ℕ → Bool
+occurs_in_b sides cut x = is_in_b cut (range_of sides x)
+
+-- where a variable occurs
+abbrev pub side_of : Bool → Bool → Side
+side_of in_a in_b = if in_a then (if in_b then Shared else ALocal) else (if in_b then BLocal else Absent)
+
+-- where a variable occurs at a cut
+abbrev pub side_at : SidesView → ℕ → ℕ → Side
+side_at sides cut x = side_of (occurs_in_a sides cut x) (occurs_in_b sides cut x)

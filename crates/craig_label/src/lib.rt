@@ -1,0 +1,14 @@
+//! Where the variables of a script occur: on which side of a cut, and how those on both sides are marked.
+//!
+//! A cut k puts the parts 1 to k on side A and the later ones on side B. For each variable the first and the last
+//! part are kept that have it, and they tell its side at each cut.
+#![tactic(auto)]
+
+mod mark;
+mod range;
+mod side;
+mod sides;
+
+pub use mark::Mark;
+pub use side::Side;
+pub use sides::Sides;

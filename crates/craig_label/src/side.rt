@@ -1,0 +1,12 @@
+/// Where a variable occurs at a cut.
+#[derive(Clone, Copy, Debug, PartialEq, Eq, Hash)]
+pub enum Side {
+    /// On side A alone.
+    ALocal,
+    /// On both sides.
+    Shared,
+    /// On side B alone.
+    BLocal,
+    /// Nowhere.
+    Absent,
+}

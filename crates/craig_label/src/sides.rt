@@ -1,0 +1,135 @@
+ghost use Rattle.std.specs.Prelude.{◌≡◌, ◌<◌, ◌≤◌, ◌↔◌, ℕ, [], slice_index_or, vec_len, IfOk, OnOk, OnErr, None};
+ghost use Rattle.craig_label.specs.Sides.{IsNoted, IsSides, range_of, side_at};
+ghost use Rattle.craig_label.specs.declared.side.Side.{Side};
+
+use crate::Side;
+use crate::range::PartRange;
+use craig_base::{Part, Var};
+use std::alloc::{AllocError, Global};
+use std::marker::Model;
+
+/// The parts that variables occur in: of each variable the first and the last one.
+///
+/// Contracts see the number of parts and a range for each dense variable that was noted.
+#[derive(Debug, Drop)]
+pub struct Sides {
+    parts: u16,
+    // by dense variable
+    ranges: Vec<Option<PartRange>>,
+}
+
+impl Model for Sides {
+    ghost use Rattle.craig_label.specs.Sides.{SidesView, IsSides};
+
+    ghost Value = { SidesView };
+
+    ghost view = { λ s. record { parts = s.parts; ranges = s.ranges.items } };
+
+    ghost invariant = { λ s. IsSides (record { parts = s.parts; ranges = s.ranges.items }) };
+}
+
+// Makes the table long enough for the variable, with empty entries. After an error it is as before.
+fn reach(ranges: &mut Vec<Option<PartRange>>, var: Var) -> Result<(), AllocError>
+    ensures within { OnOk result (var.0 < vec_len ranges.new) }
+    ensures same { (k : ℕ) → slice_index_or ranges.new.items k None ≡ slice_index_or ranges.old.items k None }
+    ensures unchanged { OnErr result (ranges.new.items ≡ ranges.old.items) }
+{
+    let place = var.0 as usize;
+    if ranges.len() <= place {
+        ranges.resize(place + 1, None)?;
+    }
+    Ok(())
+}
+
+impl Sides {
+    /// No variable is noted, in so many parts. It takes no memory.
+    pub fn new(alloc: Global, parts: u16) -> Sides
+        requires { 1 ≤ parts }
+        ensures { result ≡ record { parts = parts; ranges = [] } }
+    {
+        Sides {
+            parts,
+            ranges: Vec::new(alloc),
+        }
+    }
+
+    /// Notes that a dense variable occurs in a part, counted from 1. It takes memory for the variables up to this one.
+    /// After an error nothing is noted.
+    pub fn note(&mut self, var: Var, part: Part) -> Result<(), AllocError>
+        requires first { 1 ≤ part.0 }
+        requires last { part.0 ≤ self.old.parts }
+        ensures noted { OnOk result (IsNoted self.old var.0 part.0 self.new) }
+        ensures is_sides { IsSides self.new }
+        ensures unchanged { OnErr result (self.new ≡ self.old) }
+    {
+        reach(&mut self.ranges, var)?;
+        let place = var.0 as usize;
+        let range = PartRange::widened(self.ranges[place], part);
+        self.ranges[place] = Some(range);
+        Ok(())
+    }
+
+    /// An equal value.
+    pub fn copy(&self) -> Result<Sides, AllocError>
+        ensures { IfOk result (λ s. s ≡ self.now) }
+    {
+        let alloc = *self.ranges.allocator();
+        let ranges = Vec::from_slice(alloc, self.ranges.as_slice())?;
+        Ok(Sides {
+            parts: self.parts,
+            ranges,
+        })
+    }
+
+    /// The number of parts.
+    pub fn parts(&self) -> u16
+        ensures value { result ≡ self.now.parts }
+        ensures is_sides { IsSides self.now }
+    {
+        self.parts
+    }
+
+    /// Where a dense variable occurs at the cut that puts the parts up to `cut` on side A and the others on side B.
+    pub fn class(&self, var: Var, cut: u16) -> Side
+        requires { cut ≤ self.now.parts }
+        ensures side { result ≡ side_at self.now cut var.0 }
+        ensures absent { (result ≡ Side.Absent) ↔ (range_of self.now var.0 ≡ None) }
+    {
+        let range = self.ranges.get(var.0 as usize).copied().flatten();
+        match range {
+            None => Side::Absent,
+            Some(range) if range.first > cut => Side::BLocal,
+            Some(range) if range.last <= cut => Side::ALocal,
+            Some(_) => Side::Shared,
+        }
+    }
+}
+
+#[cfg(test)]
+mod tests {
+    use super::*;
+    use std::test::Fail;
+
+    #[test]
+    fn sides_at_each_cut(rt: HostRuntime) -> Result<(), Fail> {
+        let mut noted = Sides::new(rt.alloc(), 3);
+        noted.note(Var(0), Part(1))?;
+        noted.note(Var(0), Part(2))?;
+        noted.note(Var(1), Part(3))?;
+        let sides = noted.copy()?;
+        assert_eq!(rt; sides.parts(), 3);
+        for (cut, expected) in [
+            (1, [Side::Shared, Side::BLocal, Side::Absent]),
+            (2, [Side::ALocal, Side::BLocal, Side::Absent]),
+            (3, [Side::ALocal, Side::ALocal, Side::Absent]),
+        ] {
+            let found = [
+                sides.class(Var(0), cut),
+                sides.class(Var(1), cut),
+                sides.class(Var(2), cut),
+            ];
+            assert_eq!(rt; found, expected);
+        }
+        Ok(())
+    }
+}

@@ -1,0 +1,4 @@
+mod GrowthLemmas
+mod LiteralLemmas
+mod LeafLemmas
+mod JoinLemmas

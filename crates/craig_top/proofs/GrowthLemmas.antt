@@ -68,6 +68,12 @@ pub SFits-from_abs : (z : ℤ) → unsigned_abs z ≤ variable_limit → SFits w
 SFits-from_abs (pos n) h = omega (arith, ints)
 SFits-from_abs (negsuc n) h = omega (arith, ints)
 
+-- a number that is admitted is within its bounds
+pub is_within-bounds : (limit n : ℕ) → is_within limit n ≡ true → (1 ≤ n) × (n ≤ limit)
+is_within-bounds limit n e =
+    let bounds : (nat_le 1 n ≡ true) × (nat_le n limit ≡ true) = and_parts _ _ e in
+    (leb-true 1 n bounds.0, leb-true n limit bounds.1)
+
 -- each number of a list that is admitted names a variable
 pub is_within-at : (limit : ℕ) (zs : List ℤ) (i : ℕ) (d : ℤ) → list_all (is_within limit) (map unsigned_abs zs) ≡ true → i < length zs
     → (1 ≤ unsigned_abs (get_or zs i d)) × (unsigned_abs (get_or zs i d) ≤ limit)

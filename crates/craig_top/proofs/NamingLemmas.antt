@@ -1,11 +1,10 @@
 -- Dense clauses and values, and the clauses and assignments of the script that they stand for.
-use Rattle.std.proofs.Common.{get_or, sym, ◌∙◌, length, ℕ, ◌+◌, ◌<◌, ◌≡◌, List, [], ◌∷◌, ◌++◌, arith, refl, ap, Bool, true, false, not, map, cond, nat_lt, nat_eq, inl, inr, Some, slice_get, add-one, append-nil}
+use Rattle.std.proofs.Common.{get_or, sym, ℕ, ◌+◌, ◌<◌, ◌≡◌, List, [], ◌∷◌, ◌++◌, arith, refl, ap, Bool, true, false, not, map, cond, nat_lt, nat_eq, inl, inr, Some, slice_get, add-one, append-nil}
 use Rattle.std.proofs.lemmas.Option.{get_or_from_slice_get}
-use Rattle.std.proofs.lemmas.List.{get_or-map, length-map}
-use Rattle.std.proofs.lemmas.Bool.{and_parts, or_left, or_right, or_cases, eqb-true, eq-eqb, ltb-true, both_ways}
+use Rattle.std.proofs.lemmas.Bool.{and_parts, or_left, or_right, or_cases, eqb-true, eq-eqb, ltb-true}
 use Rattle.std.specs.List.{list_any, list_all}
 use Rattle.craig_spec.specs.Literal.{Literal, Clause}
-use Rattle.craig_spec.specs.Truth.{Assignment, IsUnsatisfiable, variable_value, literal_value, clause_value}
+use Rattle.craig_spec.specs.Truth.{Assignment, variable_value, literal_value, clause_value}
 use Rattle.craig_spec.specs.Occurs.{occurs, occurs_in_clause}
 use Rattle.craig_top.specs.Values.{value_at, all_hold, IsOver, AreOver}
 use Rattle.craig_top.specs.Naming.{named_literal, named_clause, model_below}
@@ -91,13 +90,3 @@ occurs-origin names x (c ∷ cs) h = elim (or_cases _ _ h) [
   | inl here ↦ (let found = occurs_in_clause-origin names x c here in (found.0, or_left _ _ found.1, found.2))
   | inr later ↦ (let found = occurs-origin names x cs later in (found.0, or_right _ _ found.1, found.2))
 ]
-
--- where no values of the dense variables make the clauses true, no assignment makes the script's true
-pub unsatisfiable-named : (names : List ℕ) (cs : List Clause) → AreOver (length names) cs → ((values : List Bool) → length values ≡ length names → all_hold values cs ≡ false)
-    → IsUnsatisfiable (map (named_clause names) cs)
-unsatisfiable-named names cs over none = λ s model.
-    let agree : (x : ℕ) → occurs x cs ≡ true → get_or (map (variable_value s) names) x false ≡ variable_value s (get_or names x 0) =
-    λ x h. get_or-map (variable_value s) names x 0 false (occurs-below (length names) x cs over h) in
-    let holds : all_hold (map (variable_value s) names) cs ≡ list_all (clause_value s) (map (named_clause names) cs) = agree-clauses names (map (variable_value s) names) s cs agree in
-    let fails : all_hold (map (variable_value s) names) cs ≡ false = none (map (variable_value s) names) (simp length-map) in
-    both_ways _ fails (holds ∙ model)

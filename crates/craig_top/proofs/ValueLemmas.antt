@@ -1,11 +1,11 @@
 -- Clauses under a list of values, and clauses over so many variables.
-use Rattle.std.proofs.Common.{get_or, sym, subst, ◌∙◌, length, ℕ, zero, suc, ◌<◌, ◌≡◌, List, [], ◌∷◌, ◌++◌, All, arith, refl, ap, Bool, true, false, ◌||◌, map, inl, inr, append-nil}
-use Rattle.std.proofs.lemmas.Bool.{and_parts, cases_Bool, ltb-true}
+use Rattle.std.proofs.Common.{get_or, sym, subst, ◌∙◌, length, ℕ, zero, suc, ◌<◌, ◌≡◌, List, [], ◌∷◌, ◌++◌, All, arith, refl, ap, Bool, true, false, ◌||◌, map, append-nil}
+use Rattle.std.proofs.lemmas.Bool.{and_parts, ltb-true}
 use Rattle.std.specs.List.{list_any, list_all}
 use Rattle.craig_spec.specs.Literal.{Clause}
-use Rattle.craig_spec.specs.Truth.{IsModel, IsUnsatisfiable, AreContradictory, variable_value, clause_value}
+use Rattle.craig_spec.specs.Truth.{IsModel, variable_value, clause_value}
 use Rattle.craig_base.specs.Values.{assignment_of_values}
-use Rattle.craig_search.specs.Verdict.{at_places, units}
+use Rattle.craig_search.specs.Verdict.{units}
 use Rattle.craig_top.specs.Values.{value_at, all_hold, IsOver, AreOver}
 
 -- a test of the images is a test of the elements
@@ -26,22 +26,6 @@ module _ (law : (values : List Bool) (x : ℕ) → variable_value (assignment_of
   -- a model of clauses and no assumption
   pub all_hold-from_model : (cs : List Clause) → IsModel (assignment_of_values values) (cs ++ units []) → all_hold values cs ≡ true
   all_hold-from_model cs model = sym (all_hold-values cs) ∙ subst (λ (ds : List Clause). list_all (clause_value (assignment_of_values values)) ds ≡ true) (append-nil cs) model
-
-  -- and where there is no model of the clauses, the values make one of them false
-  pub none_hold : (cs : List Clause) → IsUnsatisfiable cs → all_hold values cs ≡ false
-  none_hold cs none = elim (cases_Bool (all_hold values cs)) [
-    | inl t ↦ absurd (none (assignment_of_values values) (all_hold-values cs ∙ t))
-    | inr f ↦ f
-  ]
-
--- clauses that contradict no assumption have no model
-at_places-none : (places : List ℕ) → at_places [] places ≡ []
-at_places-none [] = refl
-at_places-none (p ∷ places) = at_places-none places
-
-pub IsUnsatisfiable-alone : (cs : List Clause) (places : List ℕ) → AreContradictory cs (units (at_places [] places)) → IsUnsatisfiable cs
-IsUnsatisfiable-alone cs places none s model =
-    (rw (at_places-none places) at none) s model refl
 
 -- clauses over n variables are so one by one
 pub IsOver-at : {A : Type 0} (n : ℕ) (labelled : List (A × Clause)) (i : ℕ) (d : A × Clause) → AreOver n (map (λ c. c.1) labelled) → i < length labelled → IsOver n (get_or labelled i d).1

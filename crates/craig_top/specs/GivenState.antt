@@ -1,6 +1,7 @@
 -- What the accepted lines of a script have said so far.
 use Rattle.std.specs.Prelude.{ℕ, ◌+◌, Bool, true, false, List, [], ◌∷◌, ◌++◌, map, Result, Ok, Err, ℤ, pos, negsuc}
 use Rattle.craig_spec.specs.Literal.{Literal, Clause}
+use Rattle.craig_spec.specs.Cut.{PartClause}
 use Rattle.craig_script.specs.declared.line.Line.{Line}
 use Rattle.craig_script.specs.declared.command.Command.{Command}
 use Rattle.craig_script.specs.declared.command.Command.TheVariants.{Nothing, Add, Solve}
@@ -8,15 +9,10 @@ use Rattle.craig_script.specs.declared.refusal.Refusal.{Refusal}
 use Rattle.craig_script.specs.Reading.{read_line}
 use Rattle.craig_top.specs.declared.settings.Settings.{Settings}
 
--- an accepted clause as it was written, over script variables, with its part
-pub record Accepted : Type 0 where
-  pub part : ℕ
-  pub clause : Clause
-
--- the number of parts, and the accepted clauses, first to last
+-- the number of parts, and the accepted clauses as they were written, over script variables, first to last
 pub record State : Type 0 where
   pub parts : ℕ
-  pub accepted : List Accepted
+  pub accepted : List PartClause
 
 -- before the first line: two parts and no clause
 abbrev pub start : Settings → State
@@ -29,10 +25,10 @@ script_literal (negsuc n) = record { var = n + 1; negated = true }
 
 -- the accepted clauses without their parts
 abbrev pub clauses_of : State → List Clause
-clauses_of state = map (λ a. a.clause) state.accepted
+clauses_of state = map (λ (a : PartClause). a.clause) state.accepted
 
 -- whether a clause is accepted
-abbrev pub any_clause : List Accepted → Bool
+abbrev pub any_clause : List PartClause → Bool
 any_clause [] = false
 any_clause (a ∷ others) = true
 

@@ -1,8 +1,11 @@
 //! The texts of replies, appended to the bytes that are put for a line.
 
 ghost use Rattle.std.specs.Prelude.{◌≡◌, ◌++◌, codes, decimal, OnOk};
-ghost use Rattle.craig_top.specs.Reply.{literal_text, literals_text, satisfiable_text, unsatisfiable_text, ok_text, refusal_text};
+ghost use Rattle.craig_aiger.specs.AsciiText.{aag_text};
+ghost use Rattle.craig_aiger.specs.RoundTrip.{ReadsAs};
+ghost use Rattle.craig_top.specs.ReplyTexts.{literal_text, literals_text, satisfiable_text, unsatisfiable_text, ok_text, refusal_text};
 
+use craig_aiger::{Form, Layout};
 use craig_base::Lit;
 use craig_script::Refusal;
 use itoa::Buffer;
@@ -13,7 +16,7 @@ pub fn append_refusal(out: &mut Vec<u8>, refusal: Refusal) -> Result<(), AllocEr
     ensures { OnOk result (out.new.items ≡ out.old.items ++ refusal_text refusal) }
 {
     out.extend_from_slice(b"e ")?;
-    append_number(out, u32::from(refusal.number()))?;
+    append_number(out, u64::from(refusal.number()))?;
     out.extend_from_slice(b"\n")
 }
 
@@ -25,11 +28,29 @@ pub fn append_model(out: &mut Vec<u8>, literals: &[Lit]) -> Result<(), AllocErro
     append_literals(out, literals)
 }
 
-/// The reply where there is no model.
-pub fn append_unsatisfiable(out: &mut Vec<u8>) -> Result<(), AllocError>
-    ensures { OnOk result (out.new.items ≡ out.old.items ++ unsatisfiable_text) }
+/// The reply where there is no model: the literals of the failed assumptions, over script variables, and the text of a
+/// circuit behind the number of its bytes.
+pub fn append_unsatisfiable(
+    out: &mut Vec<u8>,
+    failed: &[Lit],
+    circuit: &Layout,
+) -> Result<(), AllocError>
+    ensures text { OnOk result (out.new.items ≡ out.old.items ++ unsatisfiable_text failed.now (aag_text circuit.now)) }
+    ensures reads_back { OnOk result (ReadsAs circuit.now (aag_text circuit.now)) }
 {
-    out.extend_from_slice(b"s UNSATISFIABLE\n")
+    out.extend_from_slice(b"s UNSATISFIABLE\nf ")?;
+    append_literals(out, failed)?;
+    append_size(out, circuit.size_of(Form::Aag))?;
+    circuit.write_aag(out)
+}
+
+/// The line with the number of bytes that come behind it.
+fn append_size(out: &mut Vec<u8>, size: u64) -> Result<(), AllocError>
+    ensures { OnOk result (out.new.items ≡ out.old.items ++ (codes "a " ++ decimal size ++ codes "\n")) }
+{
+    out.extend_from_slice(b"a ")?;
+    append_number(out, size)?;
+    out.extend_from_slice(b"\n")
 }
 
 /// The reply to a command that is carried out and has nothing else to say.
@@ -56,12 +77,12 @@ fn append_literal(out: &mut Vec<u8>, literal: Lit) -> Result<(), AllocError>
     if literal.negated() {
         out.extend_from_slice(b"-")?;
     }
-    append_number(out, literal.var().0)?;
+    append_number(out, u64::from(literal.var().0))?;
     out.extend_from_slice(b" ")
 }
 
 /// A number in decimal digits.
-fn append_number(out: &mut Vec<u8>, number: u32) -> Result<(), AllocError>
+fn append_number(out: &mut Vec<u8>, number: u64) -> Result<(), AllocError>
     ensures { OnOk result (out.new.items ≡ out.old.items ++ decimal number) }
 {
     let mut buffer = Buffer::new();

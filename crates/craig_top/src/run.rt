@@ -83,9 +83,9 @@ impl Run {
     /// Answers each line that waits, in order.
     fn answer_ready<W: Sink>(&mut self, sink: &mut W) -> Result<(), Stop>
         ensures lines { OnOk result (self.new.lines ≡ emptied self.old.lines) }
-        ensures session { OnOk result (self.new.session ≡ after self.old.session self.old.lines.ready) }
-        ensures put { OnOk result (Puts (W.contents sink.old) (W.contents sink.new) (Transcript self.old.session self.old.lines.ready)) }
-        ensures stopped { IfErr result (λ stop. Stopped stop self.old.session self.old.lines.ready (W.contents sink.old) (W.contents sink.new)) }
+        ensures session { OnOk result (self.new.session.state ≡ after self.old.session.state self.old.lines.ready) }
+        ensures put { OnOk result (Puts (W.contents sink.old) (W.contents sink.new) (Transcript self.old.session.state self.old.lines.ready)) }
+        ensures stopped { IfErr result (λ stop. Stopped stop self.old.session.state self.old.lines.ready (W.contents sink.old) (W.contents sink.new)) }
         ensures fault { result ≡ Err Stop.WriteFault → Rose (W.faults sink.old) (W.faults sink.new) }
         ensures count { W.faults sink.old ≤ W.faults sink.new }
     {
@@ -101,9 +101,9 @@ impl Run {
     fn take<W: Sink>(&mut self, bytes: &[u8], sink: &mut W) -> Result<(), Stop>
         requires { self.old.lines.finished ≡ false }
         ensures lines { OnOk result (self.new.lines ≡ emptied (fed self.old.lines bytes.now)) }
-        ensures session { OnOk result (self.new.session ≡ after self.old.session (fed self.old.lines bytes.now).ready) }
-        ensures put { OnOk result (Puts (W.contents sink.old) (W.contents sink.new) (Transcript self.old.session (fed self.old.lines bytes.now).ready)) }
-        ensures stopped { IfErr result (λ stop. Stopped stop self.old.session (fed self.old.lines bytes.now).ready (W.contents sink.old) (W.contents sink.new)) }
+        ensures session { OnOk result (self.new.session.state ≡ after self.old.session.state (fed self.old.lines bytes.now).ready) }
+        ensures put { OnOk result (Puts (W.contents sink.old) (W.contents sink.new) (Transcript self.old.session.state (fed self.old.lines bytes.now).ready)) }
+        ensures stopped { IfErr result (λ stop. Stopped stop self.old.session.state (fed self.old.lines bytes.now).ready (W.contents sink.old) (W.contents sink.new)) }
         ensures fault { result ≡ Err Stop.WriteFault → Rose (W.faults sink.old) (W.faults sink.new) }
         ensures count { W.faults sink.old ≤ W.faults sink.new }
     {
@@ -113,8 +113,8 @@ impl Run {
 
     /// The script has ended: answers a last line without its newline.
     fn end<W: Sink>(&mut self, sink: &mut W) -> Result<(), Stop>
-        ensures put { OnOk result (Puts (W.contents sink.old) (W.contents sink.new) (Transcript self.old.session (ended self.old.lines).ready)) }
-        ensures stopped { IfErr result (λ stop. Stopped stop self.old.session (ended self.old.lines).ready (W.contents sink.old) (W.contents sink.new)) }
+        ensures put { OnOk result (Puts (W.contents sink.old) (W.contents sink.new) (Transcript self.old.session.state (ended self.old.lines).ready)) }
+        ensures stopped { IfErr result (λ stop. Stopped stop self.old.session.state (ended self.old.lines).ready (W.contents sink.old) (W.contents sink.new)) }
         ensures fault { result ≡ Err Stop.WriteFault → Rose (W.faults sink.old) (W.faults sink.new) }
         ensures count { W.faults sink.old ≤ W.faults sink.new }
     {
@@ -135,9 +135,9 @@ impl Run {
         ensures bound { IfOk result (λ count. count ≤ length piece.new) }
         ensures open { IfOk result (λ count. 0 < count → self.new.lines.finished ≡ false) }
         ensures leaves { (settings : Settings) (bound : ℕ) (left_before held_before : Option (List ℕ)) (taken : List ℕ)
-            → Progress settings left_before held_before (R.remaining source.old) (W.contents sink.old) self.old.session self.old.lines taken
+            → Progress settings left_before held_before (R.remaining source.old) (W.contents sink.old) self.old.session.state self.old.lines taken
             → length taken + length piece.old ≤ bound
-            → StepLeaves settings bound left_before held_before (R.remaining source.new) (W.contents sink.new) self.new.session self.new.lines taken piece.new result }
+            → StepLeaves settings bound left_before held_before (R.remaining source.new) (W.contents sink.new) self.new.session.state self.new.lines taken piece.new result }
         ensures read_fault { result ≡ Err Status.ReadFault → Rose (R.faults source.old) (R.faults source.new) }
         ensures write_fault { result ≡ Err Status.WriteFault → Rose (W.faults sink.old) (W.faults sink.new) }
         ensures no_other { IfErr result IsStop }
@@ -170,7 +170,7 @@ impl Run {
         requires bound { 0 < bound }
         requires open { self.old.lines.finished ≡ false }
         ensures promise { (settings : Settings) (left held : Option (List ℕ))
-            → Progress settings left held (R.remaining source.old) (W.contents sink.old) self.old.session self.old.lines []
+            → Progress settings left held (R.remaining source.old) (W.contents sink.old) self.old.session.state self.old.lines []
             → Promise settings bound result left (R.remaining source.new) held (W.contents sink.new) }
         ensures read_fault { result ≡ Status.ReadFault → Rose (R.faults source.old) (R.faults source.new) }
         ensures write_fault { result ≡ Status.WriteFault → Rose (W.faults sink.old) (W.faults sink.new) }

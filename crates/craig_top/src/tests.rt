@@ -17,11 +17,16 @@ struct Row {
 const UNSATISFIABLE: Row = Row {
     shows: "two units that contradict each other",
     script: b"add 1 1 0\nadd 2 -1 0\nsolve 0\n",
-    replies: b"ok\nok\ns UNSATISFIABLE\n",
+    replies: b"ok\nok\ns UNSATISFIABLE\nf 0\na 42\naag 1 1 0 3 0\n2\n1\n2\n0\ni0 1\no0 0\no1 1\no2 2\n",
 };
 
 const ROWS: [Row; 13] = [
     UNSATISFIABLE,
+    Row {
+        shows: "a cut variable alone, where an expansion over local ones would keep the input 2",
+        script: b"add 1 1 0\nadd 1 2 0\nadd 2 -1 0\nadd 2 2 3 0\nsolve 0\n",
+        replies: b"ok\nok\nok\nok\ns UNSATISFIABLE\nf 0\na 42\naag 1 1 0 3 0\n2\n1\n2\n0\ni0 1\no0 0\no1 1\no2 2\n",
+    },
     Row {
         shows: "an empty script",
         script: b"",
@@ -35,7 +40,7 @@ const ROWS: [Row; 13] = [
     Row {
         shows: "the empty clause",
         script: b"add 2 0\nsolve 0\n",
-        replies: b"ok\ns UNSATISFIABLE\n",
+        replies: b"ok\ns UNSATISFIABLE\nf 0\na 35\naag 0 0 0 3 0\n1\n1\n0\no0 0\no1 1\no2 2\n",
     },
     Row {
         shows: "a tautology names its variables, and the first phase is false",
@@ -50,7 +55,7 @@ const ROWS: [Row; 13] = [
     Row {
         shows: "several solves, each over what is accepted by then",
         script: b"add 1 1 2 0\nsolve 0\nadd 2 -2 0\nsolve 0\nadd 1 -1 0\nsolve 0\nsolve 0\n",
-        replies: b"ok\ns SATISFIABLE\nv -1 2 0\nok\ns SATISFIABLE\nv 1 -2 0\nok\ns UNSATISFIABLE\ns UNSATISFIABLE\n",
+        replies: b"ok\ns SATISFIABLE\nv -1 2 0\nok\ns SATISFIABLE\nv 1 -2 0\nok\ns UNSATISFIABLE\nf 0\na 42\naag 1 1 0 3 0\n2\n1\n2\n0\ni0 2\no0 0\no1 1\no2 2\ns UNSATISFIABLE\nf 0\na 42\naag 1 1 0 3 0\n2\n1\n2\n0\ni0 2\no0 0\no1 1\no2 2\n",
     },
     Row {
         shows: "two refuted branches before the model",
@@ -77,12 +82,11 @@ const ROWS: [Row; 13] = [
         script: b"add 1 999999999999999999 0\nadd 1 1000000000000000000 0\nadd 999999999999999999 1 0\n",
         replies: b"e 4\ne 1\ne 3\n",
     },
-    Row {
-        shows: "pigeons and holes",
-        script: b"add 1 1 2 0\nadd 1 3 4 0\nadd 1 5 6 0\nadd 2 -1 -3 0\nadd 2 -1 -5 0\nadd 2 -3 -5 0\nadd 2 -2 -4 0\nadd 2 -2 -6 0\nadd 2 -4 -6 0\nsolve 0\n",
-        replies: b"ok\nok\nok\nok\nok\nok\nok\nok\nok\ns UNSATISFIABLE\n",
-    },
 ];
+
+/// Three pigeons and two holes: each pigeon is in a hole by part 1, and part 2 puts no two into one.
+const PIGEONS: &[u8] =
+    b"add 1 1 2 0\nadd 1 3 4 0\nadd 1 5 6 0\nadd 2 -1 -3 0\nadd 2 -1 -5 0\nadd 2 -3 -5 0\nadd 2 -2 -4 0\nadd 2 -2 -6 0\nadd 2 -4 -6 0\nsolve 0\n";
 
 /// How a run ended, and what it put.
 #[derive(Drop)]
@@ -152,6 +156,17 @@ fn each_line_has_its_reply_in_any_pieces(rt: HostRuntime) -> Result<(), Fail> {
             );
         }
     }
+    Ok(())
+}
+
+#[test]
+fn pigeons_are_refuted_by_search(rt: HostRuntime) -> Result<(), Fail> {
+    let ending = run(rt.alloc(), PIGEONS, (65536, 65536), &[], &[])?;
+    assert_eq!(rt; ending.status, Status::Done);
+    let begins = ending.put.as_slice().starts_with(
+        b"ok\nok\nok\nok\nok\nok\nok\nok\nok\ns UNSATISFIABLE\nf 0\na ",
+    );
+    assert!(rt; begins);
     Ok(())
 }
 

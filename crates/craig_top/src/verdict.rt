@@ -1,36 +1,55 @@
-//! The reply to a `solve`: a model of the accepted clauses, or the verdict that they have none.
+//! The reply to a `solve`: a model of the accepted clauses, or their refutation.
 
 ghost use Rattle.std.specs.Prelude.{◌≡◌, ℕ, [], ◌++◌, List, None, true, length, map, OnOk};
 ghost use Rattle.std.specs.List.Sorted.{IsPermutation, IsNonDecreasing};
-ghost use Rattle.craig_solver.specs.Answer.{IsAnswer};
+ghost use Rattle.craig_spec.specs.Literal.{Literal};
+ghost use Rattle.craig_base.specs.Names.{AreNames};
+ghost use Rattle.craig_solver.specs.Answer.{IsAnswer, root_of_answer};
+ghost use Rattle.craig_solver.specs.Told.{IsToldOf, TellsAnswer};
+ghost use Rattle.craig_top.specs.LastRefutation.{IsVerdictBy};
+ghost use Rattle.craig_top.specs.ModelReply.{IsModelReply};
 ghost use Rattle.craig_top.specs.Naming.{named_clause};
-ghost use Rattle.craig_top.specs.Reply.{IsVerdict};
+ghost use Rattle.craig_top.specs.ReplyTexts.{satisfiable_text};
+ghost use Rattle.craig_top.specs.Sides.{AreSidesOf, parted};
+ghost use Rattle.craig_top.specs.Stored.{IsStored, stored_state};
 ghost use Rattle.craig_top.specs.Values.{AreOver, all_hold};
 
 use crate::model::{model_literals, named_variables};
-use crate::reply::{append_model, append_unsatisfiable};
+use crate::refutation::append_refutation;
+use crate::reply::append_model;
 use craig_base::{Lit, Lits, Names, Part, Values, values_are_an_assignment};
+use craig_label::Sides;
+use craig_proof::{ChainStore, steps_are_found};
 use craig_solver::Answer;
 use std::alloc::{AllocError, Global};
 
 /// Appends the verdict that an answer is on the clauses, which are over the dense variables of the names. The answer
-/// was given without assumptions and without a limit.
+/// was given without assumptions and without a limit, and the store was told its refutation.
 pub fn append_verdict(
     alloc: Global,
     names: &Names,
     clauses: &[(Part, Lits)],
+    sides: &Sides,
+    store: &ChainStore,
     answer: &Answer,
     out: &mut Vec<u8>,
 ) -> Result<(), AllocError>
-    requires over { AreOver (length names.now) (map (λ c. c.1) clauses.now) }
+    requires names { AreNames names.now }
+    requires stored { IsStored names.now clauses.now }
+    requires sides { AreSidesOf (parted clauses.now) sides.now }
+    requires told { IsToldOf clauses.now store.now.told }
     requires answer { IsAnswer (map (λ c. c.1) clauses.now) (length names.now) [] None answer.now }
-    ensures { OnOk result ((text : List ℕ) × IsVerdict (map (named_clause names.now) (map (λ c. c.1) clauses.now)) text
+    requires refuted { TellsAnswer clauses.now [] answer.now store.now.told }
+    ensures { OnOk result ((text : List ℕ) × IsVerdictBy names.now store.now.told.steps (root_of_answer answer.now) (stored_state sides.now.parts names.now clauses.now) [] text
         × (out.new.items ≡ out.old.items ++ text)) }
 {
     values_are_an_assignment();
+    steps_are_found();
     match answer {
         Answer::Model(values) => append_values(alloc, names, clauses, values, out),
-        Answer::Failed { .. } => append_unsatisfiable(out),
+        Answer::Failed { root, .. } => {
+            append_refutation(alloc, names, clauses, sides, store, *root, out)
+        }
         // without a limit none is met
         Answer::Limit(_) => Err(AllocError),
     }
@@ -47,8 +66,8 @@ fn append_values(
     requires over { AreOver (length names.now) (map (λ c. c.1) clauses.now) }
     requires values { length values.now ≡ length names.now }
     requires model { all_hold values.now (map (λ c. c.1) clauses.now) ≡ true }
-    ensures { OnOk result ((text : List ℕ) × IsVerdict (map (named_clause names.now) (map (λ c. c.1) clauses.now)) text
-        × (out.new.items ≡ out.old.items ++ text)) }
+    ensures { OnOk result ((literals : List Literal) × IsModelReply (map (named_clause names.now) (map (λ c. c.1) clauses.now)) literals
+        × (out.new.items ≡ out.old.items ++ satisfiable_text literals)) }
 {
     let named = named_variables(alloc, clauses, names.len() as usize)?;
     let mut literals = model_literals(alloc, names, &named, values)?;

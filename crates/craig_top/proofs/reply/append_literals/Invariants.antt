@@ -1,7 +1,7 @@
 use Rattle.std.proofs.Common.{◌≡◌, ◌++◌, take}
 use Rattle.std.specs.List.{flat_map}
 use Rattle.std.specs.Prelude.{codes}
-use Rattle.craig_top.specs.Reply.{literal_text}
+use Rattle.craig_top.specs.ReplyTexts.{literal_text}
 use Rattle.craig_top.proofs.reply.append_literals.Given as goal
 
 -- the literals so far are appended

@@ -1,12 +1,11 @@
-use Rattle.std.proofs.Common.{◌≡◌, ◌∙◌, subst, List, map, refl, inl, arith, length}
+use Rattle.std.proofs.Common.{◌≡◌, ◌∙◌, subst, List, map, refl, arith, length}
 use Rattle.std.proofs.Math.Seq.{take-append_seam}
 use Rattle.std.specs.List.Sorted.{IsPermutation}
 use Rattle.craig_spec.specs.Literal.{Literal}
 use Rattle.craig_top.specs.Naming.{named_clause, model_below}
 use Rattle.craig_top.specs.ModelReply.{IsModelReply}
-use Rattle.craig_top.specs.Reply.{IsVerdict, satisfiable_text}
 use Rattle.craig_top.proofs.ModelLemmas.{model_reply}
-use Rattle.craig_top.proofs.ResultLemmas.{appended}
+use Rattle.craig_top.proofs.ReplyLemmas.{model-appended}
 use Rattle.craig_top.proofs.verdict.append_values.Goals as goal
 
 pub returns : goal.returns
@@ -20,6 +19,4 @@ returns c =
     let reply : IsModelReply (map (named_clause c.args.names.now) (map (λ d. d.1) c.args.clauses.now)) c.sort_by_variable.new.literals =
     model_reply c.args.names.now c.in_ok-named.named.items c.args.values.now (map (λ d. d.1) c.args.clauses.now)
     c.len.ensures.are_names.distinct c.in_ok-named.ensures.named c.requires.over c.sort_by_variable.new.literals permuted c.sort_by_variable.ensures.sorted c.requires.model in
-    appended (IsVerdict (map (named_clause c.args.names.now) (map (λ d. d.1) c.args.clauses.now))) _ (satisfiable_text c.deref-2.result.now) _ _
-    (inl (c.deref-2.result.now, rw stays reply, refl))
-    c.append_model.ensures
+    model-appended c.append_model.result (map (named_clause c.args.names.now) (map (λ d. d.1) c.args.clauses.now)) c.deref-2.result.now _ _ (rw stays reply) c.append_model.ensures

@@ -1,20 +1,13 @@
-use Rattle.std.proofs.Common.{map, inr, refl}
-use Rattle.craig_spec.specs.Truth.{IsUnsatisfiable}
-use Rattle.craig_top.specs.Naming.{named_clause}
-use Rattle.craig_top.specs.Reply.{IsVerdict, unsatisfiable_text}
-use Rattle.craig_top.proofs.NamingLemmas.{unsatisfiable-named}
-use Rattle.craig_top.proofs.ResultLemmas.{appended}
-use Rattle.craig_top.proofs.ValueLemmas.{IsUnsatisfiable-alone, none_hold}
+use Rattle.std.proofs.Common.{Some}
+use Rattle.craig_solver.specs.Answer.{root_of_answer}
+use Rattle.craig_top.specs.Stored.{stored_state}
+use Rattle.craig_top.proofs.ReplyLemmas.{verdict_of_model, verdict_of_refutation}
 use Rattle.craig_top.proofs.verdict.append_verdict.Goals as goal
+
+pub returns-in-Model : goal.returns-in-Model
+returns-in-Model c =
+    verdict_of_model c.append_values.result c.args.sides.now.parts c.args.names.now c.args.store.now.told.steps (root_of_answer c.args.answer.now) c.args.clauses.now _ _ c.append_values.ensures
 
 pub returns-in-Failed : goal.returns-in-Failed
 returns-in-Failed c =
-    let contradicted = rw c.in-Failed.is at c.requires.answer in
-    let none : IsUnsatisfiable (map (λ d. d.1) c.args.clauses.now) = IsUnsatisfiable-alone (map (λ d. d.1) c.args.clauses.now) c.in-Failed.places contradicted.1 in
-    appended (IsVerdict (map (named_clause c.args.names.now) (map (λ d. d.1) c.args.clauses.now))) _ unsatisfiable_text _ _
-    (inr (
-      unsatisfiable-named c.args.names.now (map (λ d. d.1) c.args.clauses.now) c.requires.over
-          (λ values many. none_hold c.values_are_an_assignment.ensures values (map (λ d. d.1) c.args.clauses.now) none),
-      refl,
-    ))
-    c.append_unsatisfiable.ensures
+    rw c.in-Failed.is (verdict_of_refutation c.append_refutation.result c.args.names.now c.args.store.now.told.steps (Some c.in-Failed.root.0) (stored_state c.args.sides.now.parts c.args.names.now c.args.clauses.now) _ _ c.append_refutation.ensures)

@@ -21,9 +21,9 @@ returns-in_err-put_all-clause-stopped g c =
     let p = err_from_is_err_and c.from_residual-in_err-put_all.result c.from_residual-in_err-put_all.ensures.1 in
     let reply = c.in_ok-answer.ensures.reply in
     let some = c.in-Some.ensures.some in
-    let allowed : Reply (after c.args.self.now.session c.loop-line.invariant.answered) c.in-Some.line reply.0 =
+    let allowed : Reply (after c.args.self.now.session.state c.loop-line.invariant.answered) c.in-Some.line reply.0 =
     subst (λ (state : State). Reply state c.in-Some.line reply.0) c.loop-line.invariant.session reply.1 in
-    rw (p.1, p.2) (Puts-broken _ _ _ c.args.self.now.session c.args.self.now.lines.ready c.loop-line.invariant.answered c.in-Some.line c.next.new.self.ready reply.0 c.deref.result.now
+    rw (p.1, p.2) (Puts-broken _ _ _ c.args.self.now.session.state c.args.self.now.lines.ready c.loop-line.invariant.answered c.in-Some.line c.next.new.self.ready reply.0 c.deref.result.now
     (c.loop-line.invariant.ready ∙ ap (λ ls. c.loop-line.invariant.answered ++ ls) some.0) c.loop-line.invariant.put allowed
     (whole_reply _ _ _ _ c.deref.ensures.value reply.2 c.clear.ensures.items) c.in_err-put_all.ensures.begun)
 
@@ -31,15 +31,15 @@ pub loop-line-preserved : goal.loop-line-preserved
 loop-line-preserved g c =
     let reply = c.in_ok-answer.ensures.reply in
     let some = c.in-Some.ensures.some in
-    let allowed : Reply (after c.args.self.now.session c.loop-line.invariant.answered) c.in-Some.line reply.0 =
+    let allowed : Reply (after c.args.self.now.session.state c.loop-line.invariant.answered) c.in-Some.line reply.0 =
     subst (λ (state : State). Reply state c.in-Some.line reply.0) c.loop-line.invariant.session reply.1 in
     record {
       answered = c.loop-line.invariant.answered ++ c.in-Some.line ∷ [];
       ready = c.loop-line.invariant.ready ∙ ap (λ ls. c.loop-line.invariant.answered ++ ls) some.0 ∙ sym (append_assoc c.loop-line.invariant.answered (c.in-Some.line ∷ []) c.next.new.self.ready);
       lines = same_but_ready c.args.self.now.lines c.loop-line.self.lines c.next.new.self c.loop-line.invariant.lines some.1;
       session = c.in_ok-answer.ensures.state ∙ ap (λ state. next state c.in-Some.line) c.loop-line.invariant.session
-          ∙ sym (after-append c.args.self.now.session c.loop-line.invariant.answered (c.in-Some.line ∷ []));
-      put = Puts-push _ _ _ c.args.self.now.session c.loop-line.invariant.answered c.in-Some.line reply.0 c.deref.result.now c.loop-line.invariant.put allowed
+          ∙ sym (after-append c.args.self.now.session.state c.loop-line.invariant.answered (c.in-Some.line ∷ []));
+      put = Puts-push _ _ _ c.args.self.now.session.state c.loop-line.invariant.answered c.in-Some.line reply.0 c.deref.result.now c.loop-line.invariant.put allowed
           (whole_reply _ _ _ _ c.deref.ensures.value reply.2 c.clear.ensures.items) c.in_ok-put_all.ensures.written;
       count = omega (arith, c.loop-line.invariant.count, c.in_ok-put_all.ensures.count);
     }
@@ -48,15 +48,15 @@ pub loop-line-preserved-in_ok-put_all : goal.loop-line-preserved-in_ok-put_all
 loop-line-preserved-in_ok-put_all g c =
     let reply = c.in_ok-answer.ensures.reply in
     let some = c.in-Some.ensures.some in
-    let allowed : Reply (after c.args.self.now.session c.loop-line.invariant.answered) c.in-Some.line reply.0 =
+    let allowed : Reply (after c.args.self.now.session.state c.loop-line.invariant.answered) c.in-Some.line reply.0 =
     subst (λ (state : State). Reply state c.in-Some.line reply.0) c.loop-line.invariant.session reply.1 in
     record {
       answered = c.loop-line.invariant.answered ++ c.in-Some.line ∷ [];
       ready = c.loop-line.invariant.ready ∙ ap (λ ls. c.loop-line.invariant.answered ++ ls) some.0 ∙ sym (append_assoc c.loop-line.invariant.answered (c.in-Some.line ∷ []) c.next.new.self.ready);
       lines = same_but_ready c.args.self.now.lines c.loop-line.self.lines c.next.new.self c.loop-line.invariant.lines some.1;
       session = c.in_ok-answer.ensures.state ∙ ap (λ state. next state c.in-Some.line) c.loop-line.invariant.session
-          ∙ sym (after-append c.args.self.now.session c.loop-line.invariant.answered (c.in-Some.line ∷ []));
-      put = Puts-push _ _ _ c.args.self.now.session c.loop-line.invariant.answered c.in-Some.line reply.0 c.deref.result.now c.loop-line.invariant.put allowed
+          ∙ sym (after-append c.args.self.now.session.state c.loop-line.invariant.answered (c.in-Some.line ∷ []));
+      put = Puts-push _ _ _ c.args.self.now.session.state c.loop-line.invariant.answered c.in-Some.line reply.0 c.deref.result.now c.loop-line.invariant.put allowed
           (whole_reply _ _ _ _ c.deref.ensures.value reply.2 c.clear.ensures.items) c.in_ok-put_all.ensures.written;
       count = omega (arith, c.loop-line.invariant.count, c.in_ok-put_all.ensures.count);
     }

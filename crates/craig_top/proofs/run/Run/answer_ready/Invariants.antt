@@ -11,8 +11,8 @@ invariant-loop-line g l = record {
   answered : List Line;
   ready : l.fn.self.lines.ready ≡ answered ++ l.self.lines.ready;
   lines : l.self.lines ≡ record l.fn.self.lines { ready = l.self.lines.ready };
-  session : l.self.session ≡ after l.fn.self.session answered;
-  put : Puts (g.W.Sink.contents l.fn.sink) (g.W.Sink.contents l.sink) (Transcript l.fn.self.session answered);
+  session : l.self.session.state ≡ after l.fn.self.session.state answered;
+  put : Puts (g.W.Sink.contents l.fn.sink) (g.W.Sink.contents l.sink) (Transcript l.fn.self.session.state answered);
   count : g.W.Sink.faults l.fn.sink ≤ g.W.Sink.faults l.sink;
 }
 

@@ -9,8 +9,8 @@ invariant-loop-left g l = record {
   taken : List ℕ;
   bound : length taken + l.left ≡ l.fn.bound;
   open_ended : l.self.lines.finished ≡ false;
-  progress : (settings : Settings) (left held : Option (List ℕ)) → Progress settings left held (g.R.Source.remaining l.fn.source) (g.W.Sink.contents l.fn.sink) l.fn.self.session l.fn.self.lines []
-      → Progress settings left held (g.R.Source.remaining l.source) (g.W.Sink.contents l.sink) l.self.session l.self.lines taken;
+  progress : (settings : Settings) (left held : Option (List ℕ)) → Progress settings left held (g.R.Source.remaining l.fn.source) (g.W.Sink.contents l.fn.sink) l.fn.self.session.state l.fn.self.lines []
+      → Progress settings left held (g.R.Source.remaining l.source) (g.W.Sink.contents l.sink) l.self.session.state l.self.lines taken;
   read_count : g.R.Source.faults l.fn.source ≤ g.R.Source.faults l.source;
   write_count : g.W.Sink.faults l.fn.sink ≤ g.W.Sink.faults l.sink;
 }

@@ -1,0 +1,23 @@
+-- The layout of the interpolants of all cuts.
+use Rattle.std.specs.Prelude.{ℕ, ◌+◌, List, [], ◌∷◌, None}
+use Rattle.craig_spec.specs.Chain.{ToldStep}
+use Rattle.craig_spec.specs.PartialInterpolant.{AB}
+use Rattle.craig_label.specs.Sides.{SidesView}
+use Rattle.craig_aig.specs.Edges.{Edge}
+use Rattle.craig_aig.specs.declared.node.Node.{Node}
+use Rattle.craig_aiger.specs.Layouts.{Layout, HasFunctions, IsLayout}
+use Rattle.craig_aiger.specs.declared.out_name.OutName.{OutName}
+use Rattle.craig_itp.specs.Interpolants.{AreInterpolants}
+
+-- the edges, each named by its cut, of which the first has this number
+abbrev pub cut_outputs_from : ℕ → List Edge → List (OutName × Edge)
+cut_outputs_from cut [] = []
+cut_outputs_from cut (e ∷ edges) = (record { family = None; cut = cut }, e) ∷ cut_outputs_from (cut + 1) edges
+
+-- the outputs of the layout are the interpolants of the cuts by Pudlák's system, from cut 0 on
+pub record IsCutLayout (names : List ℕ) (sides : SidesView) (steps : List ToldStep) (root : ℕ) (layout : Layout) : Type 0 where
+  pub nodes : List Node
+  pub edges : List Edge
+  pub interpolants : AreInterpolants sides (λ x. AB) steps root nodes edges
+  pub laid_out : IsLayout nodes names (cut_outputs_from 0 edges) layout
+  pub functions : HasFunctions nodes names (cut_outputs_from 0 edges) layout

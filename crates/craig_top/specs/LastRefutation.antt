@@ -1,0 +1,46 @@
+-- Which refutation the reply to a solve is drawn from: that of the last root.
+use Rattle.std.specs.Prelude.{◌≡◌, ◌⊎◌, ℕ, Bool, List, map, Option, Some, Result, Ok, Err, ℤ}
+use Rattle.craig_spec.specs.Chain.{ToldStep}
+use Rattle.craig_spec.specs.Cut.{PartLiteral}
+use Rattle.craig_spec.specs.Needed.{IsNeededPart}
+use Rattle.craig_script.specs.declared.command.Command.{Command}
+use Rattle.craig_script.specs.declared.command.Command.TheVariants.{Nothing, Add, Solve}
+use Rattle.craig_script.specs.declared.refusal.Refusal.{Refusal}
+use Rattle.craig_top.specs.GivenState.{State}
+use Rattle.craig_top.specs.Named.{named_step}
+use Rattle.craig_top.specs.RefutationReply.{IsRefutationReply}
+use Rattle.craig_top.specs.Reply.{GivesModel, assumptions_of}
+
+-- what a session is seen as: the given state, the names of the dense variables, the steps that are kept, over these variables, the root of the last answer, if that was a refutation, and whether a line wanted memory in vain
+pub record SessionView : Type 0 where
+  pub state : State
+  pub names : List ℕ
+  pub steps : List ToldStep
+  pub root : Option ℕ
+  pub dead : Bool
+
+-- the root is the last one, and the steps are those that it needs, with the variables of the script
+pub record IsOfLastRoot (names : List ℕ) (kept : List ToldStep) (last : Option ℕ) (steps : List ToldStep) (root : ℕ) : Type 0 where
+  pub is_last : last ≡ Some root
+  pub part : List ToldStep
+  pub needed : IsNeededPart kept root part
+  pub named : steps ≡ map (named_step names) part
+
+-- the reply refutes, and its interpolants are drawn from the steps that the last root needs
+abbrev pub IsRefutationBy : (names : List ℕ) → (kept : List ToldStep) → (last : Option ℕ) → State → List PartLiteral → List ℕ → Type 0
+IsRefutationBy names kept last state assumptions text = (reply : IsRefutationReply state assumptions text) × IsOfLastRoot names kept last reply.drawn.steps reply.drawn.root
+
+-- the reply gives a model, or so refutes
+abbrev pub IsVerdictBy : (names : List ℕ) → (kept : List ToldStep) → (last : Option ℕ) → State → List (ℕ × ℤ) → List ℕ → Type 0
+IsVerdictBy names kept last state pairs text = GivesModel state pairs text ⊎ IsRefutationBy names kept last state (assumptions_of pairs) text
+
+-- the reply to a solve is such a verdict
+abbrev pub IsByLastRoot : SessionView → State → Command → List ℕ → Type 0
+IsByLastRoot view state Nothing text = Unit {0}
+IsByLastRoot view state (Add part lits) text = Unit {0}
+IsByLastRoot view state (Solve pairs) text = IsVerdictBy view.names view.steps view.root state pairs text
+
+-- so is the reply to a line that is a solve
+abbrev pub ReadingIsByLastRoot : SessionView → State → Result Command Refusal → List ℕ → Type 0
+ReadingIsByLastRoot view state (Ok command) text = IsByLastRoot view state command text
+ReadingIsByLastRoot view state (Err refusal) text = Unit {0}

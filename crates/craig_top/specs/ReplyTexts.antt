@@ -1,0 +1,30 @@
+-- The texts of replies, byte by byte.
+use Rattle.std.specs.Prelude.{ℕ, List, [], ◌++◌, length, codes, decimal, if◌then◌else◌}
+use Rattle.std.specs.List.{flat_map}
+use Rattle.craig_spec.specs.Literal.{Literal}
+use Rattle.craig_script.specs.declared.refusal.Refusal.{Refusal}
+use Rattle.craig_script.specs.Refusals.{number_of_refusal}
+
+-- a literal as it is printed, with a minus sign where it is negated
+abbrev pub literal_text : Literal → List ℕ
+literal_text l = (if l.negated then codes "-" else []) ++ decimal l.var
+
+-- each literal with a space behind it, and a 0 that ends the line
+abbrev pub literals_text : List Literal → List ℕ
+literals_text literals = flat_map (λ l. literal_text l ++ codes " ") literals ++ codes "0\n"
+
+-- the reply with a model
+abbrev pub satisfiable_text : List Literal → List ℕ
+satisfiable_text literals = codes "s SATISFIABLE\nv " ++ literals_text literals
+
+-- the reply where there is no model: the literals of the failed assumptions, the number of bytes, and then these bytes
+abbrev pub unsatisfiable_text : List Literal → List ℕ → List ℕ
+unsatisfiable_text failed bytes = codes "s UNSATISFIABLE\nf " ++ literals_text failed ++ codes "a " ++ decimal (length bytes) ++ codes "\n" ++ bytes
+
+-- the reply to a line that is refused
+abbrev pub refusal_text : Refusal → List ℕ
+refusal_text refusal = codes "e " ++ decimal (number_of_refusal refusal) ++ codes "\n"
+
+-- the reply to a command that is carried out and has nothing else to say
+abbrev pub ok_text : List ℕ
+ok_text = codes "ok\n"

@@ -87,35 +87,66 @@ fn of_one(alloc: Global, aig: &Aig, names: &Names, edge: Edge) -> Result<Layout,
     Layout::new(alloc, aig, names, &[(name, edge)])
 }
 
-// Prints the number of gates, the bytes, and the nanoseconds of building, layout, size, writing and reading.
-fn measure(rt: &HostRuntime, gates: u32) -> Result<()> {
-    let alloc = rt.alloc();
-    let names = named(alloc)?;
-    if names.len() < INPUTS {
-        return Ok(());
+// The nanoseconds since the start, or 0 where the clock doesn't tell.
+fn since(rt: &HostRuntime, start: &Instant) -> u128 {
+    match start.elapsed(rt) {
+        Ok(time) => time.as_nanos(),
+        Err(_) => 0,
     }
-    let mut aig = Aig::new(alloc);
-    let start = Instant::now(rt)?;
-    let last = chain(&mut aig, &names, gates)?;
-    let built = start.elapsed(rt)?.as_nanos();
-    let start = Instant::now(rt)?;
-    let layout = of_one(alloc, &aig, &names, last)?;
-    let laid_out = start.elapsed(rt)?.as_nanos();
+}
+
+// Whether the text is read.
+fn is_read(alloc: Global, text: &[u8]) -> bool {
+    craig_aiger::read(alloc, text).is_ok()
+}
+
+// Prints the number of gates, the bytes, and the nanoseconds of building, layout, size, writing and reading.
+fn measure_text(rt: &HostRuntime, layout: &Layout, gates: u32, built: u128, laid_out: u128) -> Result<()> {
+    let alloc = rt.alloc();
     let start = Instant::now(rt)?;
     let size = layout.size_of(Form::Aag);
-    let counted = start.elapsed(rt)?.as_nanos();
+    let counted = since(rt, &start);
     let mut text = Vec::new(alloc);
     let start = Instant::now(rt)?;
     layout.write_aag(&mut text)?;
-    let written = start.elapsed(rt)?.as_nanos();
+    let written = since(rt, &start);
     let start = Instant::now(rt)?;
-    let back = craig_aiger::read(alloc, text.as_slice());
-    let read = start.elapsed(rt)?.as_nanos();
-    if back.is_err() {
+    let back = is_read(alloc, text.as_slice());
+    let read = since(rt, &start);
+    if !back {
         println!(rt; "not read")?;
     }
     println!(rt; "{gates} {size} {built} {laid_out} {counted} {written} {read}")?;
     Ok(())
+}
+
+// Lays the edge out, and goes on with its text.
+fn measure_layout(rt: &HostRuntime, aig: &Aig, names: &Names, last: Edge, gates: u32, built: u128) -> Result<()>
+    requires edge { last.place < length aig.now }
+    requires inputs { (x : ℕ) → Contains (cone aig.now last) x → x < length names.now }
+{
+    let start = Instant::now(rt)?;
+    let layout = of_one(rt.alloc(), aig, names, last)?;
+    let laid_out = since(rt, &start);
+    measure_text(rt, &layout, gates, built, laid_out)
+}
+
+// Builds a chain, and goes on with its layout.
+fn measure_chain(rt: &HostRuntime, aig: &mut Aig, names: &Names, gates: u32) -> Result<()> {
+    if names.len() < INPUTS {
+        return Ok(());
+    }
+    let start = Instant::now(rt)?;
+    let last = chain(aig, names, gates)?;
+    let built = since(rt, &start);
+    measure_layout(rt, aig, names, last, gates, built)
+}
+
+// Measures a chain of so many gates.
+fn measure(rt: &HostRuntime, gates: u32) -> Result<()> {
+    let names = named(rt.alloc())?;
+    let mut aig = Aig::new(rt.alloc());
+    measure_chain(rt, &mut aig, &names, gates)
 }
 
 fn main(rt: HostRuntime) -> Result<()> {

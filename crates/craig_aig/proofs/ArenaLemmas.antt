@@ -3,7 +3,7 @@ use Rattle.std.proofs.Common.{◌≡◌, ◌≢◌, ℕ, zero, suc, ◌+◌, ◌
 use Rattle.std.proofs.lemmas.List.{get_or_append_left, get_or_at, get_or-take, get_or_default, length-take-le}
 use Rattle.std.proofs.lemmas.Bool.{cases_lt}
 use Rattle.std.proofs.lemmas.List.Quantifiers.{all_pairs_push}
-use Rattle.craig_aig.specs.Arenas.{IsPlaced, IsArena}
+use Rattle.craig_aig.specs.Arenas.{IsPlaced, IsAig}
 use Rattle.craig_aig.specs.declared.node.Node.{Node}
 use Rattle.craig_aig.specs.declared.node.Node.TheVariants.{Constant}
 
@@ -29,16 +29,16 @@ placed-push nodes n h here k within =
     ]
 
 -- a node that isn't there yet may be added
-pub IsArena-push : (nodes : List Node) (n : Node) → IsArena nodes → IsPlaced (length nodes) n → (Contains nodes n → ⊥) → IsArena (nodes ++ n ∷ [])
-IsArena-push nodes n h here new = record {
+pub IsAig-push : (nodes : List Node) (n : Node) → IsAig nodes → IsPlaced (length nodes) n → (Contains nodes n → ⊥) → IsAig (nodes ++ n ∷ [])
+IsAig-push nodes n h here new = record {
   first = first-append nodes (n ∷ []) h.first;
   placed = placed-push nodes n h.placed here;
   distinct = all_pairs_push (λ a b. a ≢ b) nodes n h.distinct (λ k d within e. new (k, within, get_or_default nodes k n d within ∙ e));
 }
 
 -- what is left of an arena is one
-pub IsArena-take : (nodes : List Node) (n : ℕ) → IsArena nodes → 1 ≤ n → n ≤ length nodes → IsArena (take n nodes)
-IsArena-take nodes n h positive within =
+pub IsAig-take : (nodes : List Node) (n : ℕ) → IsAig nodes → 1 ≤ n → n ≤ length nodes → IsAig (take n nodes)
+IsAig-take nodes n h positive within =
     let l : length (take n nodes) ≡ n = length-take-le n nodes within in
     record {
       first = first-take n nodes positive h.first;
@@ -56,6 +56,6 @@ take-behind items (suc n) h = let e : suc n - 1 ≡ n = omega arith in ap (λ k.
 pub cut-is : (old : List Node) (items fewer : List Node) (n : ℕ) → fewer ≡ take (n - 1) items → Constant ∷ items ≡ old → 1 ≤ n → Constant ∷ fewer ≡ take n old
 cut-is old items fewer n e view positive = ap (λ l. Constant ∷ l) e ∙ take-behind items n positive ∙ ap (take n) view
 
-pub IsArena-cut : (old : List Node) (items fewer : List Node) (n : ℕ) → fewer ≡ take (n - 1) items → Constant ∷ items ≡ old → IsArena (Constant ∷ items) → 1 ≤ n → n ≤ length old → IsArena (Constant ∷ fewer)
-IsArena-cut old items fewer n e view h positive within =
-    subst IsArena (sym (cut-is old items fewer n e view positive)) (IsArena-take old n (subst IsArena view h) positive within)
+pub IsAig-cut : (old : List Node) (items fewer : List Node) (n : ℕ) → fewer ≡ take (n - 1) items → Constant ∷ items ≡ old → IsAig (Constant ∷ items) → 1 ≤ n → n ≤ length old → IsAig (Constant ∷ fewer)
+IsAig-cut old items fewer n e view h positive within =
+    subst IsAig (sym (cut-is old items fewer n e view positive)) (IsAig-take old n (subst IsAig view h) positive within)

@@ -5,7 +5,7 @@ use Rattle.std.proofs.lemmas.Bool.{eqb-false, ltb-false}
 use Rattle.std.proofs.lemmas.List.Elements.{Contains-append_cases}
 use Rattle.std.proofs.lemmas.Option.{slice_get_within}
 use Rattle.craig_spec.specs.Truth.{Assignment}
-use Rattle.craig_aig.specs.Arenas.{IsPlaced, IsArena}
+use Rattle.craig_aig.specs.Arenas.{IsPlaced, IsAig}
 use Rattle.craig_aig.specs.Cones.{node_cone, cones, cone, ConeWithin}
 use Rattle.craig_aig.specs.Conjunctions.{constant_edge, folded, gate}
 use Rattle.craig_aig.specs.Edges.{Edge}
@@ -16,11 +16,11 @@ use Rattle.craig_aig.specs.declared.node.Node.TheVariants.{Constant, Gate}
 use Rattle.craig_aig.proofs.FunctionLemmas.{edge_value-node, cone-node, KeepsEdge-append}
 
 -- the constants
-pub edge_value-constant : (s : Assignment) (nodes : List Node) (b : Bool) → IsArena nodes → edge_value s nodes (constant_edge b) ≡ b
+pub edge_value-constant : (s : Assignment) (nodes : List Node) (b : Bool) → IsAig nodes → edge_value s nodes (constant_edge b) ≡ b
 edge_value-constant s nodes true h = ap not (edge_value-node s nodes 0 Constant h h.first)
 edge_value-constant s nodes false h = edge_value-node s nodes 0 Constant h h.first
 
-pub cone-constant : (nodes : List Node) (b : Bool) → IsArena nodes → cone nodes (constant_edge b) ≡ []
+pub cone-constant : (nodes : List Node) (b : Bool) → IsAig nodes → cone nodes (constant_edge b) ≡ []
 cone-constant nodes b h = cone-node nodes 0 Constant h h.first
 
 -- an edge is made of its place and its sign
@@ -31,10 +31,10 @@ edge_is e place n p q = λ i. record { place = p i; negated = q i }
 pub within-IsShared : (old new : List Node) (node : Node) (e : Edge) → IsShared old node new e → e.place < length new
 within-IsShared old new node e h = slice_get_within new e.place node h.place
 
-pub edge_value-IsShared : (s : Assignment) (old new : List Node) (node : Node) (e : Edge) → IsArena new → IsShared old node new e → edge_value s new e ≡ node_value s (values s new) node
+pub edge_value-IsShared : (s : Assignment) (old new : List Node) (node : Node) (e : Edge) → IsAig new → IsShared old node new e → edge_value s new e ≡ node_value s (values s new) node
 edge_value-IsShared s old new node e arena h = ap (edge_value s new) (edge_is e e.place false refl h.plain) ∙ edge_value-node s new e.place node arena h.place
 
-pub cone-IsShared : (old new : List Node) (node : Node) (e : Edge) → IsArena new → IsShared old node new e → cone new e ≡ node_cone (cones new) node
+pub cone-IsShared : (old new : List Node) (node : Node) (e : Edge) → IsAig new → IsShared old node new e → cone new e ≡ node_cone (cones new) node
 cone-IsShared old new node e arena h = cone-node new e.place node arena h.place
 
 -- the node of a conjunction, whichever operand is first
@@ -60,14 +60,14 @@ pub kept_cone : (old new : List Node) (e : Edge) → Extends old new → e.place
 kept_cone old new e (added, is) h = subst (λ l. cone l e ≡ cone old e) (sym is) (KeepsEdge-append old added e h).cone_is
 
 -- the edge of a gate computes the conjunction of its operands
-pub edge_value-gate : (s : Assignment) (old new : List Node) (left right e : Edge) → IsArena new → Extends old new → left.place < length old → right.place < length old →
+pub edge_value-gate : (s : Assignment) (old new : List Node) (left right e : Edge) → IsAig new → Extends old new → left.place < length old → right.place < length old →
     IsShared old (gate left right) new e → edge_value s new e ≡ (edge_value s old left && edge_value s old right)
 edge_value-gate s old new left right e arena grown l r h =
     edge_value-IsShared s old new (gate left right) e arena h ∙ node_value-ordered s new left right (ltb left.place right.place)
     ∙ ap (λ b. b && edge_value s new right) (kept_value s old new left grown l) ∙ ap (λ b. edge_value s old left && b) (kept_value s old new right grown r)
 
 -- and reaches what they reach
-pub cone-gate : (old new : List Node) (left right e : Edge) → IsArena new → Extends old new → left.place < length old → right.place < length old →
+pub cone-gate : (old new : List Node) (left right e : Edge) → IsAig new → Extends old new → left.place < length old → right.place < length old →
     IsShared old (gate left right) new e → ConeWithin old left right new e
 cone-gate old new left right e arena grown l r h x c =
     let here : Contains (node_cone (cones new) (gate left right)) x = subst (λ (k : List ℕ). Contains k x) (cone-IsShared old new (gate left right) e arena h) c in
@@ -105,7 +105,7 @@ and-false true = refl
 and-false false = refl
 
 -- the value of an edge that is folded as one operand has the value b: the other one, or false
-value_chosen : (s : Assignment) (nodes : List Node) (b : Bool) (other f : Edge) → IsArena nodes → Some (cond b other (constant_edge false)) ≡ Some f → edge_value s nodes f ≡ (b && edge_value s nodes other)
+value_chosen : (s : Assignment) (nodes : List Node) (b : Bool) (other f : Edge) → IsAig nodes → Some (cond b other (constant_edge false)) ≡ Some f → edge_value s nodes f ≡ (b && edge_value s nodes other)
 value_chosen s nodes true other f arena h = let e : f ≡ other = cc in ap (edge_value s nodes) e
 value_chosen s nodes false other f arena h = let e : f ≡ constant_edge false = cc in ap (edge_value s nodes) e ∙ edge_value-constant s nodes false arena
 
@@ -120,11 +120,11 @@ both_signs false true false = refl
 both_signs false false true = refl
 both_signs false false false = refl
 
-value_same : (s : Assignment) (nodes : List Node) (same : Bool) (left f : Edge) → IsArena nodes → Some (cond same left (constant_edge false)) ≡ Some f → edge_value s nodes f ≡ cond same (edge_value s nodes left) false
+value_same : (s : Assignment) (nodes : List Node) (same : Bool) (left f : Edge) → IsAig nodes → Some (cond same left (constant_edge false)) ≡ Some f → edge_value s nodes f ≡ cond same (edge_value s nodes left) false
 value_same s nodes true left f arena h = let e : f ≡ left = cc in ap (edge_value s nodes) e
 value_same s nodes false left f arena h = let e : f ≡ constant_edge false = cc in ap (edge_value s nodes) e ∙ edge_value-constant s nodes false arena
 
-value_folded : (s : Assignment) (nodes : List Node) (left right f : Edge) (t u v : Bool) → IsArena nodes → eqb left.place 0 ≡ t → eqb right.place 0 ≡ u → eqb left.place right.place ≡ v →
+value_folded : (s : Assignment) (nodes : List Node) (left right f : Edge) (t u v : Bool) → IsAig nodes → eqb left.place 0 ≡ t → eqb right.place 0 ≡ u → eqb left.place right.place ≡ v →
     cond t (Some (cond left.negated right (constant_edge false))) (cond u (Some (cond right.negated left (constant_edge false))) (cond v (Some (cond (cond left.negated right.negated (not right.negated)) left (constant_edge false))) None)) ≡ Some f →
     edge_value s nodes f ≡ (edge_value s nodes left && edge_value s nodes right)
 value_folded s nodes left right f true u v arena t_is u_is v_is h =
@@ -141,11 +141,11 @@ value_folded s nodes left right f false false true arena t_is u_is v_is h =
 value_folded s nodes left right f false false false arena t_is u_is v_is h = absurd cc
 
 -- a folded conjunction computes the conjunction
-pub edge_value-folded : (s : Assignment) (nodes : List Node) (left right f : Edge) → IsArena nodes → folded left right ≡ Some f → edge_value s nodes f ≡ (edge_value s nodes left && edge_value s nodes right)
+pub edge_value-folded : (s : Assignment) (nodes : List Node) (left right f : Edge) → IsAig nodes → folded left right ≡ Some f → edge_value s nodes f ≡ (edge_value s nodes left && edge_value s nodes right)
 edge_value-folded s nodes left right f arena h = value_folded s nodes left right f (eqb left.place 0) (eqb right.place 0) (eqb left.place right.place) arena refl refl refl h
 
 -- and reaches what the operands reach
-pub cone-folded : (nodes : List Node) (left right f : Edge) → IsArena nodes → folded left right ≡ Some f → ConeWithin nodes left right nodes f
+pub cone-folded : (nodes : List Node) (left right f : Edge) → IsAig nodes → folded left right ≡ Some f → ConeWithin nodes left right nodes f
 cone-folded nodes left right f arena h x c =
     elim (FoldedTo-folded left right f h) [
       | inl l ↦ inl (subst (λ (e : Edge). Contains (cone nodes e) x) l c)

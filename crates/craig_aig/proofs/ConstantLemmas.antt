@@ -3,7 +3,7 @@ use Rattle.std.proofs.Common.{◌≡◌, ℕ, zero, suc, ◌<◌, Bool, true, fa
 use Rattle.std.proofs.lemmas.List.Elements.{Contains-append_right}
 use Rattle.std.proofs.lemmas.Option.{slice_get-get_or}
 use Rattle.craig_spec.specs.Truth.{Assignment}
-use Rattle.craig_aig.specs.Arenas.{AreOperands, IsArena}
+use Rattle.craig_aig.specs.Arenas.{AreOperands, IsAig}
 use Rattle.craig_aig.specs.Cones.{cone}
 use Rattle.craig_aig.specs.Conjunctions.{constant_edge}
 use Rattle.craig_aig.specs.Edges.{Edge, plain_edge}
@@ -12,7 +12,7 @@ use Rattle.craig_aig.specs.declared.node.Node.{Node}
 use Rattle.craig_aig.specs.declared.node.Node.TheVariants.{Constant, Input, Gate}
 use Rattle.craig_aig.proofs.FunctionLemmas.{cone-node, edge_value-node, placed_at}
 
-module _ (nodes : List Node) (arena : IsArena nodes) where
+module _ (nodes : List Node) (arena : IsAig nodes) where
   -- the edge reaches a variable
   abbrev Reaches : Edge → Type 0
   Reaches e = (x : ℕ) × Contains (cone nodes e) x
@@ -34,7 +34,7 @@ module _ (nodes : List Node) (arena : IsArena nodes) where
       by_node e.place (get_or nodes e.place Constant) (slice_get-get_or nodes e.place Constant within) above (λ f less positive. up_to bound f (omega arith) (omega arith) positive)
 
 -- so an edge that reaches none is of the constant
-pub constant_place : (nodes : List Node) (e : Edge) → IsArena nodes → e.place < length nodes → ((x : ℕ) → Contains (cone nodes e) x → ⊥) → e.place ≡ 0
+pub constant_place : (nodes : List Node) (e : Edge) → IsAig nodes → e.place < length nodes → ((x : ℕ) → Contains (cone nodes e) x → ⊥) → e.place ≡ 0
 constant_place nodes e arena within none =
     let not_above : 0 < e.place → ⊥ = λ above. let r = up_to nodes arena (suc e.place) e (omega arith) within above in none r.0 r.1 in
     omega (arith, not_above)
@@ -44,7 +44,7 @@ value_is_sign true b e = e
 value_is_sign false b e = e
 
 -- and is the constant that has its value
-pub constant_by_value : (nodes : List Node) (e : Edge) (s : Assignment) (value : Bool) → IsArena nodes → e.place < length nodes → ((x : ℕ) → Contains (cone nodes e) x → ⊥) → edge_value s nodes e ≡ value → e ≡ constant_edge value
+pub constant_by_value : (nodes : List Node) (e : Edge) (s : Assignment) (value : Bool) → IsAig nodes → e.place < length nodes → ((x : ℕ) → Contains (cone nodes e) x → ⊥) → edge_value s nodes e ≡ value → e ≡ constant_edge value
 constant_by_value nodes e s value arena within none is =
     let place : e.place ≡ 0 = constant_place nodes e arena within none in
     let node : edge_value s nodes (plain_edge 0) ≡ false = edge_value-node s nodes 0 Constant arena arena.first in

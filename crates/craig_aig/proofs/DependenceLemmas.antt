@@ -3,7 +3,7 @@ use Rattle.std.proofs.Common.{◌≡◌, ℕ, zero, suc, ◌<◌, not, cond, ◌
 use Rattle.std.proofs.lemmas.List.Elements.{Contains-append_left, Contains-append_right}
 use Rattle.std.proofs.lemmas.Option.{slice_get-get_or}
 use Rattle.craig_spec.specs.Truth.{Assignment, variable_value}
-use Rattle.craig_aig.specs.Arenas.{AreOperands, IsArena}
+use Rattle.craig_aig.specs.Arenas.{AreOperands, IsAig}
 use Rattle.craig_aig.specs.Cones.{cone}
 use Rattle.craig_aig.specs.Edges.{Edge, plain_edge}
 use Rattle.craig_aig.specs.Values.{edge_value}
@@ -11,7 +11,7 @@ use Rattle.craig_aig.specs.declared.node.Node.{Node}
 use Rattle.craig_aig.specs.declared.node.Node.TheVariants.{Constant, Input, Gate}
 use Rattle.craig_aig.proofs.FunctionLemmas.{cone-node, edge_value-node, placed_at}
 
-module _ (nodes : List Node) (arena : IsArena nodes) (s t : Assignment) where
+module _ (nodes : List Node) (arena : IsAig nodes) (s t : Assignment) where
   -- the two assignments agree on what the edge reaches
   abbrev Agree : Edge → Type 0
   Agree e = (x : ℕ) → Contains (cone nodes e) x → variable_value s x ≡ variable_value t x
@@ -40,5 +40,5 @@ module _ (nodes : List Node) (arena : IsArena nodes) (s t : Assignment) where
   up_to (suc bound) e below within agree =
       signed e (by_node e.place (get_or nodes e.place Constant) (slice_get-get_or nodes e.place Constant within) agree (λ f less agrees. up_to bound f (omega arith) (omega arith) agrees))
 
-pub by_cone : (nodes : List Node) (e : Edge) (s t : Assignment) → IsArena nodes → e.place < length nodes → ((x : ℕ) → Contains (cone nodes e) x → variable_value s x ≡ variable_value t x) → edge_value s nodes e ≡ edge_value t nodes e
+pub by_cone : (nodes : List Node) (e : Edge) (s t : Assignment) → IsAig nodes → e.place < length nodes → ((x : ℕ) → Contains (cone nodes e) x → variable_value s x ≡ variable_value t x) → edge_value s nodes e ≡ edge_value t nodes e
 by_cone nodes e s t arena within agree = up_to nodes arena s t (suc e.place) e (omega arith) within agree

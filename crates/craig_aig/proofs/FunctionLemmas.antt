@@ -4,7 +4,7 @@ use Rattle.std.proofs.lemmas.List.{length-take-le}
 use Rattle.std.proofs.lemmas.Option.{slice_get_within, get_or_from_slice_get}
 use Rattle.std.proofs.Common.{subst}
 use Rattle.craig_spec.specs.Truth.{Assignment}
-use Rattle.craig_aig.specs.Arenas.{IsPlaced, IsArena}
+use Rattle.craig_aig.specs.Arenas.{IsPlaced, IsAig}
 use Rattle.craig_aig.specs.Cones.{node_cone, cones, cone}
 use Rattle.craig_aig.specs.Edges.{Edge, negation, plain_edge}
 use Rattle.craig_aig.specs.Growth.{Extends, KeepsEdge, KeepsEdges}
@@ -51,18 +51,18 @@ node_cone-placed nodes i (Gate left right) within h =
     let r : cone (take i nodes) right ≡ cone nodes right = (KeepsEdge-take nodes i right within (omega arith)).cone_is in
     ap (λ c. c ++ cone (take i nodes) right) l ∙ ap (λ c. cone nodes left ++ c) r
 
-pub placed_at : (nodes : List Node) (i : ℕ) (n : Node) → IsArena nodes → slice_get nodes i ≡ Some n → IsPlaced i n
+pub placed_at : (nodes : List Node) (i : ℕ) (n : Node) → IsAig nodes → slice_get nodes i ≡ Some n → IsPlaced i n
 placed_at nodes i n h at = subst (IsPlaced i) (get_or_from_slice_get nodes i n Constant at) (h.placed i (slice_get_within nodes i n at))
 
 -- the value of a node, from its operands
-pub edge_value-node : (s : Assignment) (nodes : List Node) (i : ℕ) (n : Node) → IsArena nodes → slice_get nodes i ≡ Some n → edge_value s nodes (plain_edge i) ≡ node_value s (values s nodes) n
+pub edge_value-node : (s : Assignment) (nodes : List Node) (i : ℕ) (n : Node) → IsAig nodes → slice_get nodes i ≡ Some n → edge_value s nodes (plain_edge i) ≡ node_value s (values s nodes) n
 edge_value-node s nodes i n h at =
     let within : i < length nodes = slice_get_within nodes i n at in
     let front : get_or (values s nodes) i false ≡ node_value s (values s (take i nodes)) (get_or nodes i n) = get_or-from_front (node_value s) nodes i false n within in
     front ∙ ap (node_value s (values s (take i nodes))) (get_or_from_slice_get nodes i n n at) ∙ node_value-placed s nodes i n (omega arith) (placed_at nodes i n h at)
 
 -- the cone of a node, from its operands
-pub cone-node : (nodes : List Node) (i : ℕ) (n : Node) → IsArena nodes → slice_get nodes i ≡ Some n → cone nodes (plain_edge i) ≡ node_cone (cones nodes) n
+pub cone-node : (nodes : List Node) (i : ℕ) (n : Node) → IsAig nodes → slice_get nodes i ≡ Some n → cone nodes (plain_edge i) ≡ node_cone (cones nodes) n
 cone-node nodes i n h at =
     let within : i < length nodes = slice_get_within nodes i n at in
     let front : get_or (cones nodes) i [] ≡ node_cone (cones (take i nodes)) (get_or nodes i n) = get_or-from_front node_cone nodes i [] n within in

@@ -5,12 +5,12 @@ use Rattle.std.specs.List.{list_any}
 use Rattle.std.proofs.lemmas.List.{append-nil}
 use Rattle.std.proofs.lemmas.Map.Views.{list_any-from_Contains, Contains-from_any}
 use Rattle.indexmap.specs.IndexSet.{insert_key}
-use Rattle.craig_aig.specs.Arenas.{IsPlaced, IsArena}
+use Rattle.craig_aig.specs.Arenas.{IsPlaced, IsAig}
 use Rattle.craig_aig.specs.Edges.{Edge}
 use Rattle.craig_aig.specs.Growth.{Extends, IsShared}
 use Rattle.craig_aig.specs.declared.node.Node.{Node}
 use Rattle.craig_aig.specs.declared.node.Node.TheVariants.{Constant}
-use Rattle.craig_aig.proofs.ArenaLemmas.{IsArena-push}
+use Rattle.craig_aig.proofs.ArenaLemmas.{IsAig-push}
 
 -- a node that may stand behind the constant isn't the constant
 not_constant : (k : ℕ) (node : Node) → IsPlaced (suc k) node → Constant ≡ node → ⊥
@@ -63,8 +63,8 @@ pub Extends-inserted : (old items more : List Node) (node : Node) → Constant �
 Extends-inserted old items more node view (inl (_, same)) = ([], ap (λ l. Constant ∷ l) same ∙ view ∙ sym (append-nil old))
 Extends-inserted old items more node view (inr (_, more_is)) = (node ∷ [], ap (λ l. Constant ∷ l) more_is ∙ ap (λ l. l ++ node ∷ []) view)
 
-pub IsArena-inserted : (old items more : List Node) (node : Node) → Constant ∷ items ≡ old → IsArena (Constant ∷ items) → IsPlaced (length old) node → IsInserted items node more → IsArena (Constant ∷ more)
-IsArena-inserted old items more node view h here (inl (_, same)) = subst (λ l. IsArena (Constant ∷ l)) (sym same) h
-IsArena-inserted old items more node view h here (inr (none, more_is)) =
+pub IsAig-inserted : (old items more : List Node) (node : Node) → Constant ∷ items ≡ old → IsAig (Constant ∷ items) → IsPlaced (length old) node → IsInserted items node more → IsAig (Constant ∷ more)
+IsAig-inserted old items more node view h here (inl (_, same)) = subst (λ l. IsAig (Constant ∷ l)) (sym same) h
+IsAig-inserted old items more node view h here (inr (none, more_is)) =
     let placed : IsPlaced (length (Constant ∷ items)) node = subst (λ l. IsPlaced (length l) node) (sym view) here in
-    subst (λ l. IsArena (Constant ∷ l)) (sym more_is) (IsArena-push (Constant ∷ items) node h placed (absent items node none placed))
+    subst (λ l. IsAig (Constant ∷ l)) (sym more_is) (IsAig-push (Constant ∷ items) node h placed (absent items node none placed))

@@ -20,7 +20,7 @@ IsPlaced place (Input x) = 0 < place
 IsPlaced place (Gate left right) = AreOperands place left right
 
 -- the list is an arena
-pub record IsArena (nodes : List Node) : Type 0 where
+pub record IsAig (nodes : List Node) : Type 0 where
   -- it begins with the constant
   pub first : slice_get nodes 0 ≡ Some Constant
   -- each node may stand where it stands

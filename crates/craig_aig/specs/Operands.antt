@@ -1,7 +1,7 @@
 -- What each node of an arena has from its operands, and what a list of bits gives a variable.
 use Rattle.std.specs.Prelude.{◌≡◌, ℕ, Bool, false, List, Some, slice_get, slice_index_or}
 use Rattle.craig_spec.specs.Truth.{Assignment, variable_value}
-use Rattle.craig_aig.specs.Arenas.{IsArena}
+use Rattle.craig_aig.specs.Arenas.{IsAig}
 use Rattle.craig_aig.specs.Cones.{cone, cones, node_cone}
 use Rattle.craig_aig.specs.Edges.{plain_edge}
 use Rattle.craig_aig.specs.Values.{edge_value, node_value, true_variables, values}
@@ -9,11 +9,11 @@ use Rattle.craig_aig.specs.declared.node.Node.{Node}
 
 -- the value of each node is that which the values of its operands give it
 abbrev pub ValuesFromOperands : Type 0
-ValuesFromOperands = (s : Assignment) (nodes : List Node) (place : ℕ) (n : Node) → IsArena nodes → slice_get nodes place ≡ Some n → edge_value s nodes (plain_edge place) ≡ node_value s (values s nodes) n
+ValuesFromOperands = (s : Assignment) (nodes : List Node) (place : ℕ) (n : Node) → IsAig nodes → slice_get nodes place ≡ Some n → edge_value s nodes (plain_edge place) ≡ node_value s (values s nodes) n
 
 -- the cone of each node is that which the cones of its operands give it
 abbrev pub ConesFromOperands : Type 0
-ConesFromOperands = (nodes : List Node) (place : ℕ) (n : Node) → IsArena nodes → slice_get nodes place ≡ Some n → cone nodes (plain_edge place) ≡ node_cone (cones nodes) n
+ConesFromOperands = (nodes : List Node) (place : ℕ) (n : Node) → IsAig nodes → slice_get nodes place ≡ Some n → cone nodes (plain_edge place) ≡ node_cone (cones nodes) n
 
 -- each variable has the value of its bit, and is false where it has none
 abbrev pub ValuesFromBits : Type 0

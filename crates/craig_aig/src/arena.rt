@@ -1,6 +1,6 @@
 ghost use Rattle.std.specs.Prelude.{◌≡◌, ◌+◌, ◌<◌, ◌≤◌, ◌⊎◌, ◌&&◌, ◌||◌, false, [], ◌∷◌, ℕ, List, length, take, Some, slice_get, Contains, IfOk, OnErr, if◌then◌else◌, not};
 ghost use Rattle.craig_spec.specs.Truth.{Assignment, variable_value};
-ghost use Rattle.craig_aig.specs.Arenas.{IsArena, IsPlaced};
+ghost use Rattle.craig_aig.specs.Arenas.{IsAig, IsPlaced};
 ghost use Rattle.craig_aig.specs.Cones.{cone, ConeWithin};
 ghost use Rattle.craig_aig.specs.Conjunctions.{constant_edge, gate, IsConjunction};
 ghost use Rattle.craig_aig.specs.Edges.{Edge, negation};
@@ -27,7 +27,7 @@ pub struct Aig {
 
 impl Model for Aig {
     ghost use Rattle.std.specs.Prelude.{List, ◌∷◌};
-    ghost use Rattle.craig_aig.specs.Arenas.{IsArena};
+    ghost use Rattle.craig_aig.specs.Arenas.{IsAig};
     ghost use Rattle.craig_aig.specs.declared.node.Node.{Node};
     ghost use Rattle.craig_aig.specs.declared.node.Node.TheVariants.{Constant};
 
@@ -35,14 +35,14 @@ impl Model for Aig {
 
     ghost view = { λ a. Constant ∷ a.nodes.keys };
 
-    ghost invariant = { λ a. IsArena (Constant ∷ a.nodes.keys) };
+    ghost invariant = { λ a. IsAig (Constant ∷ a.nodes.keys) };
 }
 
 impl Aig {
     /// The arena of the constant alone, which takes no memory.
     pub fn new(alloc: Global) -> Aig
         ensures value { result ≡ Node.Constant ∷ [] }
-        ensures is_arena { IsArena result }
+        ensures is_arena { IsAig result }
     {
         Aig {
             nodes: IndexSet::new(alloc),
@@ -52,9 +52,9 @@ impl Aig {
     /// The edge that is true or false everywhere. It is of each arena.
     pub fn constant(value: bool) -> Edge
         ensures edge { result ≡ constant_edge value }
-        ensures within { (nodes : List Node) → IsArena nodes → result.place < length nodes }
-        ensures computes { (s : Assignment) (nodes : List Node) → IsArena nodes → edge_value s nodes result ≡ value }
-        ensures cone { (nodes : List Node) → IsArena nodes → cone nodes result ≡ [] }
+        ensures within { (nodes : List Node) → IsAig nodes → result.place < length nodes }
+        ensures computes { (s : Assignment) (nodes : List Node) → IsAig nodes → edge_value s nodes result ≡ value }
+        ensures cone { (nodes : List Node) → IsAig nodes → cone nodes result ≡ [] }
     {
         Edge::new(0, value)
     }
@@ -71,7 +71,7 @@ impl Aig {
     /// The number of nodes, at least 1.
     pub fn len(&self) -> usize
         ensures value { result ≡ length self.now }
-        ensures is_arena { IsArena self.now }
+        ensures is_arena { IsAig self.now }
     {
         self.nodes.len() + 1
     }
@@ -80,7 +80,7 @@ impl Aig {
     pub fn node(&self, edge: Edge) -> Node
         requires { edge.place < length self.now }
         ensures value { slice_get self.now edge.place ≡ Some result }
-        ensures is_arena { IsArena self.now }
+        ensures is_arena { IsAig self.now }
     {
         match edge.place() {
             0 => Node::Constant,
@@ -95,7 +95,7 @@ impl Aig {
         ensures shared { IfOk result (IsShared self.old node self.new) }
         ensures extends { Extends self.old self.new }
         ensures count { length self.new ≤ length self.old + 1 }
-        ensures is_arena { IsArena self.new }
+        ensures is_arena { IsAig self.new }
         ensures unchanged { OnErr result (self.new ≡ self.old) }
     {
         let (index, _) = self.nodes.insert_full(node)?;
@@ -114,7 +114,7 @@ impl Aig {
         ensures extends { Extends self.old self.new }
         ensures count { length self.new ≤ length self.old + 1 }
         ensures kept { KeepsEdges self.old self.new }
-        ensures is_arena { IsArena self.new }
+        ensures is_arena { IsAig self.new }
         ensures unchanged { OnErr result (self.new ≡ self.old) }
     {
         // What holds of each arena is known from here on.
@@ -135,7 +135,7 @@ impl Aig {
         ensures extends { Extends self.old self.new }
         ensures count { length self.new ≤ length self.old + 1 }
         ensures kept { KeepsEdges self.old self.new }
-        ensures is_arena { IsArena self.new }
+        ensures is_arena { IsAig self.new }
         ensures unchanged { OnErr result (self.new ≡ self.old) }
     {
         // What holds of each arena is known from here on.
@@ -158,7 +158,7 @@ impl Aig {
         ensures extends { Extends self.old self.new }
         ensures count { length self.new ≤ length self.old + 1 }
         ensures kept { KeepsEdges self.old self.new }
-        ensures is_arena { IsArena self.new }
+        ensures is_arena { IsAig self.new }
         ensures unchanged { OnErr result (self.new ≡ self.old) }
     {
         let neither = self.and(Aig::not(left), Aig::not(right))?;
@@ -178,7 +178,7 @@ impl Aig {
         ensures extends { Extends self.old self.new }
         ensures count { length self.new ≤ length self.old + 3 }
         ensures kept { KeepsEdges self.old self.new }
-        ensures is_arena { IsArena self.new }
+        ensures is_arena { IsAig self.new }
     {
         let chosen = self.and(select, yes)?;
         let other = self.and(Aig::not(select), no)?;
@@ -188,7 +188,7 @@ impl Aig {
     /// The present number of nodes, to go back to.
     pub fn level(&self) -> Level
         ensures value { result ≡ length self.now }
-        ensures is_arena { IsArena self.now }
+        ensures is_arena { IsAig self.now }
     {
         Level::new(self.len())
     }
@@ -199,7 +199,7 @@ impl Aig {
         ensures nodes { self.new ≡ take level self.old }
         ensures count { length self.new ≡ level }
         ensures kept { KeepsEdges self.old self.new }
-        ensures is_arena { IsArena self.new }
+        ensures is_arena { IsAig self.new }
     {
         self.nodes.truncate(level.nodes() - 1);
     }

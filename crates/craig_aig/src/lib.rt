@@ -8,16 +8,13 @@
 
 mod arena;
 mod conjunction;
-mod constants;
 mod edge;
-mod laws;
+pub mod laws;
 mod level;
 mod node;
 mod value;
 
 pub use arena::Aig;
-pub use constants::no_input_is_constant;
 pub use edge::Edge;
-pub use laws::{bits_are_an_assignment, nodes_by_operands, values_by_cones};
 pub use level::Level;
 pub use node::Node;

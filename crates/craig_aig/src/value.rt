@@ -1,6 +1,6 @@
 //! Values of nodes under an assignment, from the front and without recursion.
 ghost use Rattle.std.specs.Prelude.{◌≡◌, ◌<◌, ◌∷◌, length, IfOk};
-ghost use Rattle.craig_aig.specs.Arenas.{IsArena, IsPlaced};
+ghost use Rattle.craig_aig.specs.Arenas.{IsAig, IsPlaced};
 ghost use Rattle.craig_aig.specs.Values.{edge_value_in, node_value, values, true_variables};
 
 use crate::{Edge, Node};
@@ -32,7 +32,7 @@ pub(crate) fn values_of(
     nodes: &[Node],
     assignment: &[bool],
 ) -> Result<Vec<bool>, AllocError>
-    requires { IsArena (Node.Constant ∷ nodes.now) }
+    requires { IsAig (Node.Constant ∷ nodes.now) }
     ensures { IfOk result (λ v. v.items ≡ values (true_variables assignment.now) (Node.Constant ∷ nodes.now)) }
 {
     let mut values = Vec::new(alloc);

@@ -9,7 +9,7 @@ use Rattle.std.proofs.Math.ListN.{get_or-map}
 use Rattle.std.proofs.lemmas.Option.{slice_get_within, get_or_from_slice_get}
 use Rattle.craig_spec.specs.Circuit as circuit
 use Rattle.craig_spec.specs.Truth.{Assignment, variable_value}
-use Rattle.craig_aig.specs.Arenas.{IsArena, AreOperands}
+use Rattle.craig_aig.specs.Arenas.{IsAig, AreOperands}
 use Rattle.craig_aig.specs.Edges.{Edge}
 use Rattle.craig_aig.specs.Cones.{cone, cones}
 use Rattle.craig_aig.specs.Operands.{ConesFromOperands, ValuesFromBits, ValuesFromOperands}
@@ -92,7 +92,7 @@ cone_ordered names before a b u false e h = rw e h
 one_output : (p q : OutName × ℕ) → Some p ≡ Some q → p ≡ q
 one_output p q e = cc
 
-module _ (nodes : List Node) (names : List ℕ) (outputs : List (OutName × Edge)) (layout : Layout) (arena : IsArena nodes) (h : IsLayout nodes names outputs layout) where
+module _ (nodes : List Node) (names : List ℕ) (outputs : List (OutName × Edge)) (layout : Layout) (arena : IsAig nodes) (h : IsLayout nodes names outputs layout) where
   at_node : (k : ℕ) (n : Node) → at h.table k ≡ Some n → slice_get nodes k ≡ Some n
   at_node k n is = h.needed.nodes_are k n is
 

@@ -5,7 +5,7 @@ use Rattle.std.specs.List.{list_all}
 use Rattle.std.proofs.lemmas.Bool.Decides.{nat_tests}
 use Rattle.std.proofs.lemmas.Option.{slice_get_within}
 use Rattle.craig_aig.specs.Edges.{Edge, plain_edge}
-use Rattle.craig_aig.specs.Arenas.{IsArena}
+use Rattle.craig_aig.specs.Arenas.{IsAig}
 use Rattle.craig_aig.specs.Cones.{cone}
 use Rattle.craig_aig.specs.Operands.{ConesFromOperands}
 use Rattle.craig_aig.specs.declared.node.Node.{Node}
@@ -68,7 +68,7 @@ pub is_some_of : (o : Option Node) (n : Node) → o ≡ Some n → is_some o ≡
 is_some_of o n e = rw e refl
 
 -- the cones of needed nodes are below what bounds the cones of the edges
-needed_below : ConesFromOperands → (nodes : List Node) (edges : List Edge) (table : List (Option Node)) (n k : ℕ) → IsArena nodes → AreNeeded nodes edges table → All (λ e. all_below n (cone nodes e) ≡ true) edges → is_some (at table k) ≡ true → k < length nodes → all_below n (cone nodes (plain_edge k)) ≡ true
+needed_below : ConesFromOperands → (nodes : List Node) (edges : List Edge) (table : List (Option Node)) (n k : ℕ) → IsAig nodes → AreNeeded nodes edges table → All (λ e. all_below n (cone nodes e) ≡ true) edges → is_some (at table k) ≡ true → k < length nodes → all_below n (cone nodes (plain_edge k)) ≡ true
 needed_below from_operands nodes edges table n k arena h roots some within =
     (h.needed k within).0 some (λ p. all_below n (cone nodes (plain_edge p))) roots
     (λ p l r is both. let e : cone nodes (plain_edge p) ≡ cone nodes l ++ cone nodes r = from_operands nodes p (Gate l r) arena is in
@@ -80,7 +80,7 @@ bounded_at nodes names [] roots j d within y here = absurd (omega arith)
 bounded_at nodes names (o ∷ outputs) roots zero d within y here = roots 0 o (omega arith) y here
 bounded_at nodes names (o ∷ outputs) roots (suc j) d within y here = bounded_at nodes names outputs (λ i e inside. roots (suc i) e (omega arith)) j d (omega arith) y here
 
-pub AreNamed-needed : ConesFromOperands → (nodes : List Node) (names : List ℕ) (outputs : List (OutName × Edge)) (table : List (Option Node)) → IsArena nodes → AreNeeded nodes (edges_of outputs) table → All (λ o. (x : ℕ) → Contains (cone nodes o.1) x → x < length names) outputs → AreNamed names table
+pub AreNamed-needed : ConesFromOperands → (nodes : List Node) (names : List ℕ) (outputs : List (OutName × Edge)) (table : List (Option Node)) → IsAig nodes → AreNeeded nodes (edges_of outputs) table → All (λ o. (x : ℕ) → Contains (cone nodes o.1) x → x < length names) outputs → AreNamed names table
 AreNamed-needed from_operands nodes names outputs table arena h roots k v e =
     let x = input_is (at table k) v e in
     let there : slice_get nodes k ≡ Some (Input x.0) = h.nodes_are k (Input x.0) x.1 in

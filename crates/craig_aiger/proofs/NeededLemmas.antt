@@ -7,7 +7,7 @@ use Rattle.std.proofs.Math.ListN.{get_or-map}
 use Rattle.craig_aiger.specs.declared.out_name.OutName.{OutName}
 use Rattle.std.proofs.lemmas.Option.{slice_get-get_or, slice_get_within, get_or_from_slice_get}
 use Rattle.craig_aig.specs.Edges.{Edge}
-use Rattle.craig_aig.specs.Arenas.{IsArena, AreOperands, IsPlaced}
+use Rattle.craig_aig.specs.Arenas.{IsAig, AreOperands, IsPlaced}
 use Rattle.craig_aig.specs.declared.node.Node.{Node}
 use Rattle.craig_aig.specs.declared.node.Node.TheVariants.{Constant, Input, Gate}
 use Rattle.craig_aiger.specs.Layouts.{at, gate_in, OperandsBelow, edges_of, IsClosed, IsNeeded, IsRooted, AreNeeded}
@@ -150,7 +150,7 @@ Back-down nodes edges table place next step here h = record {
 }
 
 -- the operands of a kept gate stand below it
-pub operands_at : (nodes : List Node) (place : ℕ) (left right : Edge) → IsArena nodes → slice_get nodes place ≡ Some (Gate left right) → AreOperands place left right
+pub operands_at : (nodes : List Node) (place : ℕ) (left right : Edge) → IsAig nodes → slice_get nodes place ≡ Some (Gate left right) → AreOperands place left right
 operands_at nodes place left right arena is = subst (IsPlaced place) (get_or_from_slice_get nodes place (Gate left right) Constant is) (arena.placed place (slice_get_within nodes place (Gate left right) is))
 
 -- a node that isn't kept now is as before
@@ -171,7 +171,7 @@ is_some_at : (o : Option Node) (n : Node) → o ≡ Some n → is_some o ≡ tru
 is_some_at o n e = rw e refl
 
 -- both operands of the gate at the place below are kept
-pub Back-gate : (nodes : List Node) (edges : List Edge) (old mid new : List (Option Node)) (left right : Edge) (place next : ℕ) → IsArena nodes → next ≡ place + 1 → at old place ≡ Some (Gate left right) → IsKept nodes old mid left.place → length mid ≡ length old → IsKept nodes mid new right.place → length new ≡ length mid → Back nodes edges old next → Back nodes edges new place
+pub Back-gate : (nodes : List Node) (edges : List Edge) (old mid new : List (Option Node)) (left right : Edge) (place next : ℕ) → IsAig nodes → next ≡ place + 1 → at old place ≡ Some (Gate left right) → IsKept nodes old mid left.place → length mid ≡ length old → IsKept nodes mid new right.place → length new ≡ length mid → Back nodes edges old next → Back nodes edges new place
 Back-gate nodes edges old mid new left right place next arena step is kept1 same1 kept2 same2 h =
     let there : slice_get nodes place ≡ Some (Gate left right) = h.nodes_are place (Gate left right) is in
     let within : place < length nodes = slice_get_within nodes place (Gate left right) there in
@@ -220,7 +220,7 @@ gate_in_is (Some (Gate a b)) l r e = ap (λ (p : Edge × Edge). Some (Gate p.0 p
 pub gate_read : (table : List (Option Node)) (k : ℕ) (x : Option Node) (l r : Edge) → k < length table → gate_in (get_or table k x) ≡ Some (l, r) → at table k ≡ Some (Gate l r)
 gate_read table k x l r within e = get_or_default table k None x within ∙ gate_in_is (get_or table k x) l r e
 
-pub operands_within : (nodes : List Node) (edges : List Edge) (table : List (Option Node)) (k next : ℕ) (l r : Edge) → IsArena nodes → Back nodes edges table next → at table k ≡ Some (Gate l r) → (l.place < length nodes) × (r.place < length nodes)
+pub operands_within : (nodes : List Node) (edges : List Edge) (table : List (Option Node)) (k next : ℕ) (l r : Edge) → IsAig nodes → Back nodes edges table next → at table k ≡ Some (Gate l r) → (l.place < length nodes) × (r.place < length nodes)
 operands_within nodes edges table k next l r arena h is =
     let there : slice_get nodes k ≡ Some (Gate l r) = h.nodes_are k (Gate l r) is in
     let below : AreOperands k l r = operands_at nodes k l r arena there in
@@ -245,7 +245,7 @@ place_at outputs n i x is within h = subst (λ (o : OutName × Edge). o.1.place 
 pub operands_below : (table : List (Option Node)) (k : ℕ) (x : Option Node) (p : Edge × Edge) → OperandsBelow table → k < length table → gate_in (get_or table k x) ≡ Some p → (p.0.place < k) × (p.1.place < k)
 operands_below table k x p below within e = below k p.0 p.1 (gate_read table k x p.0 p.1 within e)
 
-pub OperandsBelow-needed : (nodes : List Node) (edges : List Edge) (table : List (Option Node)) → IsArena nodes → AreNeeded nodes edges table → OperandsBelow table
+pub OperandsBelow-needed : (nodes : List Node) (edges : List Edge) (table : List (Option Node)) → IsAig nodes → AreNeeded nodes edges table → OperandsBelow table
 OperandsBelow-needed nodes edges table arena h k l r is =
     let below : AreOperands k l r = operands_at nodes k l r arena (h.nodes_are k (Gate l r) is) in
     (below.below, omega (arith, below.below, below.ordered))

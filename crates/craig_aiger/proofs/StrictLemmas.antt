@@ -10,7 +10,7 @@ use Rattle.std.proofs.lemmas.Map.Made.{AllPairs-from_IsDistinct}
 use Rattle.std.proofs.Math.ListN.{get_or-map}
 use Rattle.std.proofs.lemmas.Option.{slice_get_within, slice_get-get_or, get_or_from_slice_get}
 use Rattle.craig_spec.specs.Circuit as circuit
-use Rattle.craig_aig.specs.Arenas.{AreOperands, IsArena, IsPlaced}
+use Rattle.craig_aig.specs.Arenas.{AreOperands, IsAig, IsPlaced}
 use Rattle.craig_aig.specs.Edges.{Edge}
 use Rattle.craig_aig.specs.declared.node.Node.{Node}
 use Rattle.craig_aig.specs.declared.node.Node.TheVariants.{Constant, Input, Gate}
@@ -99,7 +99,7 @@ output_has P laid j o is roots =
     let there : slice_get outs j ≡ Some (record { name = name_text o.0; literal = o.1 }) = map_at (λ (x : OutName × ℕ). record { name = name_text x.0; literal = x.1 }) laid j o is in
     subst (λ (x : circuit.Output). P x.literal) (get_or_from_slice_get outs j (record { name = name_text o.0; literal = o.1 }) d there) (roots j d (slice_get_within outs j (record { name = name_text o.0; literal = o.1 }) there))
 
-module _ (nodes : List Node) (names : List ℕ) (outputs : List (OutName × Edge)) (layout : Layout) (arena : IsArena nodes) (h : IsLayout nodes names outputs layout) where
+module _ (nodes : List Node) (names : List ℕ) (outputs : List (OutName × Edge)) (layout : Layout) (arena : IsAig nodes) (h : IsLayout nodes names outputs layout) where
   abbrev Numbered : ℕ → Node → ℕ → Type 0
   Numbered k n m = IsNumber names layout.inputs (take k h.table) (Some n) m
 

@@ -7,7 +7,7 @@ use Rattle.std.proofs.lemmas.List.{get_or_default, length-map}
 use Rattle.std.proofs.lemmas.List.Folds.{Any-from_list_any, list_all-append, list_any_at}
 use Rattle.std.proofs.lemmas.Option.{slice_get_within, slice_get-get_or}
 use Rattle.craig_spec.specs.Circuit as circuit
-use Rattle.craig_aig.specs.Arenas.{IsArena}
+use Rattle.craig_aig.specs.Arenas.{IsAig}
 use Rattle.craig_aig.specs.Cones.{cone}
 use Rattle.craig_aig.specs.Edges.{Edge, plain_edge}
 use Rattle.craig_aig.specs.Operands.{ConesFromOperands}
@@ -38,7 +38,7 @@ edge_reached nodes edges j d within =
     list_any_at (λ e. list_any (eqb x) (cone nodes e)) edges j d within (list_any_at (eqb x) (cone nodes (get_or edges j d)) m.0 x m.1 (eq-eqb x (get_or (cone nodes (get_or edges j d)) m.0 x) (sym m.2))))
 
 -- and so is what needed nodes reach
-needed_reached : ConesFromOperands → (nodes : List Node) (edges : List Edge) (table : List (Option Node)) (k : ℕ) → IsArena nodes → AreNeeded nodes edges table → is_some (at table k) ≡ true → k < length nodes → list_all (reached nodes edges) (cone nodes (plain_edge k)) ≡ true
+needed_reached : ConesFromOperands → (nodes : List Node) (edges : List Edge) (table : List (Option Node)) (k : ℕ) → IsAig nodes → AreNeeded nodes edges table → is_some (at table k) ≡ true → k < length nodes → list_all (reached nodes edges) (cone nodes (plain_edge k)) ≡ true
 needed_reached from_operands nodes edges table k arena h some within =
     (h.needed k within).0 some (λ p. list_all (reached nodes edges) (cone nodes (plain_edge p))) (λ j d inside. edge_reached nodes edges j d inside)
     (λ p l r is all.
@@ -111,7 +111,7 @@ module _ (nodes : List Node) (names : List ℕ) (outputs : List (OutName × Edge
       (r.place, l, laid, (same_cones r.place r.output l x r.there laid).1 (subst (Contains (map (λ k. get_or names k 0) (cone nodes r.output.1))) named (map_member (λ k. get_or names k 0) (cone nodes r.output.1) v r.has_it)))
 
   -- a needed input is reached
-  input_reached : ConesFromOperands → (v : ℕ) → IsArena nodes → (g : Given h.table v) → (n : (x : Var) × (at h.table g.place ≡ Some (Input x)) × (x.0 ≡ v)) → reached nodes (edges_of outputs) v ≡ true
+  input_reached : ConesFromOperands → (v : ℕ) → IsAig nodes → (g : Given h.table v) → (n : (x : Var) × (at h.table g.place ≡ Some (Input x)) × (x.0 ≡ v)) → reached nodes (edges_of outputs) v ≡ true
   input_reached from_operands v arena g n =
       let there : slice_get nodes g.place ≡ Some (Input n.0) = h.needed.nodes_are g.place (Input n.0) n.1 in
       let all : list_all (reached nodes (edges_of outputs)) (cone nodes (plain_edge g.place)) ≡ true =
@@ -119,7 +119,7 @@ module _ (nodes : List Node) (names : List ℕ) (outputs : List (OutName × Edge
       let c : cone nodes (plain_edge g.place) ≡ v ∷ [] = from_operands nodes g.place (Input n.0) arena there ∙ ap (λ k. k ∷ []) n.2 in
       (both_parts (reached nodes (edges_of outputs) v) true (rw c at all)).0
 
-  pub AreUsed-layout : ConesFromOperands → IsArena nodes → (x : ℕ) → Contains layout.inputs x → (j : ℕ) × (l : OutName × ℕ) × (slice_get layout.outputs j ≡ Some l) × Contains (circuit.circuit_cone (circuit_of layout) l.1) x
+  pub AreUsed-layout : ConesFromOperands → IsAig nodes → (x : ℕ) → Contains layout.inputs x → (j : ℕ) × (l : OutName × ℕ) × (slice_get layout.outputs j ≡ Some l) × Contains (circuit.circuit_cone (circuit_of layout) l.1) x
   AreUsed-layout from_operands arena x here =
       let m = member_of_map (λ k. get_or names k 0) (filter_map input_in h.table) x ((h.inputs_are x).0 here) in
       let g : Given h.table m.0 = given h.table m.0 m.1 in

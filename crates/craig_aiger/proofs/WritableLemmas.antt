@@ -7,7 +7,7 @@ use Rattle.std.proofs.lemmas.Bool.Decides.{nat_tests}
 use Rattle.std.proofs.lemmas.List.{length-map, take_all}
 use Rattle.std.proofs.lemmas.Option.{slice_get_within, slice_get-get_or}
 use Rattle.craig_spec.specs.Circuit.{IsStrict}
-use Rattle.craig_aig.specs.Arenas.{IsArena}
+use Rattle.craig_aig.specs.Arenas.{IsAig}
 use Rattle.craig_aig.specs.Edges.{Edge}
 use Rattle.craig_aig.specs.declared.node.Node.{Node}
 use Rattle.craig_aig.specs.declared.node.Node.TheVariants.{Gate}
@@ -85,7 +85,7 @@ literal_below : (numbers : List ℕ) (e : Edge) (sign : Bool) (bound : ℕ) → 
 literal_below numbers e true bound is h = rw is (omega (arith, h))
 literal_below numbers e false bound is h = rw is (omega (arith, h))
 
-module _ (nodes : List Node) (names : List ℕ) (outputs : List (OutName × Edge)) (layout : Layout) (arena : IsArena nodes) (h : IsLayout nodes names outputs layout) where
+module _ (nodes : List Node) (names : List ℕ) (outputs : List (OutName × Edge)) (layout : Layout) (arena : IsAig nodes) (h : IsLayout nodes names outputs layout) where
   -- a literal of a needed node before a place
   literal_before : (e : Edge) (k : ℕ) → is_some (at h.table e.place) ≡ true → e.place < k → k ≤ length h.table → literal_of h.numbers e < 2 * (1 + length layout.inputs + length (filter_map gate_in (take k h.table)))
   literal_before e k some below within =

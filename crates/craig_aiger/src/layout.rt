@@ -12,7 +12,7 @@ use crate::needed::needed_nodes;
 use crate::numbering::{number_nodes, numbered_gates, numbered_outputs};
 use crate::size::text_size;
 use crate::{Form, OutName};
-use craig_aig::{Aig, Edge, bits_are_an_assignment, nodes_by_operands};
+use craig_aig::{Aig, Edge};
 use craig_base::Names;
 use std::alloc::{AllocError, Global};
 use std::marker::Model;
@@ -61,8 +61,8 @@ impl Layout {
         ensures is_writable { IfOk result IsWritable }
         ensures strict { IfOk result (λ l. IsStrict (circuit_of l)) }
     {
-        nodes_by_operands();
-        bits_are_an_assignment();
+        craig_aig::laws::nodes_by_operands();
+        craig_aig::laws::bits_are_an_assignment();
         if aig.len() > LIMIT || outputs.len() > LIMIT {
             return Err(AllocError);
         }

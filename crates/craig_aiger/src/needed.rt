@@ -1,6 +1,6 @@
 //! Which nodes some edges need: one pass from the last node back, which keeps the operands of each kept gate.
 ghost use Rattle.std.specs.Prelude.{◌≡◌, ◌<◌, ℕ, None, All, length, slice_get, nat_eq, IfOk, if◌then◌else◌};
-ghost use Rattle.craig_aig.specs.Arenas.{IsArena};
+ghost use Rattle.craig_aig.specs.Arenas.{IsAig};
 ghost use Rattle.craig_aiger.specs.Layouts.{AreNeeded, IsRooted, at, edges_of, gate_in};
 
 use crate::OutName;
@@ -41,7 +41,7 @@ pub(crate) fn gate_operands(node: &Option<Node>) -> Option<(Edge, Edge)>
 
 // Keeps what the kept nodes need, from the last node to the first.
 fn keep_back(table: &mut [Option<Node>], aig: &Aig, outputs: &[(OutName, Edge)])
-    requires is_arena { IsArena aig.now }
+    requires is_arena { IsAig aig.now }
     requires rooted { IsRooted aig.now (edges_of outputs.now) table.old }
     ensures { AreNeeded aig.now (edges_of outputs.now) table.new }
 {

@@ -9,7 +9,7 @@ use crate::marks::Marks;
 use crate::resolvent::Resolvent;
 use craig_base::{ClauseId, Lit, Lits};
 use craig_proof::Steps;
-use craig_watch::{Held, conflicts_above_the_root};
+use craig_watch::Held;
 use std::alloc::{AllocError, Global};
 use std::marker::Model;
 
@@ -55,7 +55,7 @@ impl Analysis {
         ensures derived { IfOk result (IsDerived held.now.arena) }
         ensures asserting { IfOk result (IsAssertingClause held.now) }
     {
-        conflicts_above_the_root();
+        craig_watch::laws::conflicts_above_the_root();
         let mut rest = Steps::new(self.alloc);
         self.resolvent.begin(held, conflict)?;
         let first = self.resolvent.find_asserting(held, &mut rest)?;

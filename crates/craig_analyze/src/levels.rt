@@ -6,7 +6,7 @@ ghost use Rattle.craig_analyze.specs.Learnt.{IsGreatestOf, IsNumberOfDifferent};
 
 use crate::marks::Marks;
 use craig_base::Lit;
-use craig_watch::{Held, levels_rise};
+use craig_watch::Held;
 use std::alloc::AllocError;
 
 // The greatest level of the literals, 0 where there is none.
@@ -27,7 +27,7 @@ pub(crate) fn count_levels(marks: &mut Marks, held: &Held, lits: &[Lit]) -> Resu
     requires consistent { IsConsistent held.now }
     ensures { IfOk result (IsNumberOfDifferent (map (level_at held.now.trail) lits.now)) }
 {
-    levels_rise();
+    craig_watch::laws::levels_rise();
     marks.clear();
     for lit in lits {
         marks.insert(held.level_of(lit.var()))?;

@@ -10,6 +10,7 @@ use Rattle.craig_spec.specs.Chain.{SameLiterals}
 use Rattle.craig_base.specs.Clauses.{IsNormal}
 use Rattle.craig_base.proofs.ClausesLemmas.{vars_apart-IsNormal}
 use Rattle.craig_base.proofs.CountingLemmas.{length-le_from_counts, NoneMoreThan-IsDistinct}
+use Rattle.craig_spec.proofs.MemberLemmas.{Contains-later}
 
 abbrev sign : Bool → ℕ
 sign negated = cond negated 2 1
@@ -69,9 +70,6 @@ same-digits (suc v) c d is x low =
       | inl same ↦ subst (λ (y : ℕ). digit y c ≡ digit y d) (sym same.1) both.0
       | inr other ↦ let ne : x ≢ v = other.1 in same-digits v c d both.1 x (omega arith)
     ]
-
-Contains-later : (m : Literal) (c : Clause) (l : Literal) → Contains c l → Contains (m ∷ c) l
-Contains-later m c l (k, within, is) = (suc k, omega arith, is)
 
 -- the digit of a clause is the sign of a literal of the variable that it has
 sign-same : (b n : Bool) → sign b ≡ sign n → b ≡ n

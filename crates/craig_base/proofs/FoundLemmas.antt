@@ -7,12 +7,10 @@ use Rattle.std.proofs.lemmas.Bool.{eqb-false}
 use Rattle.craig_spec.specs.Literal.{Clause}
 use Rattle.craig_spec.specs.Truth.{Assignment, IsModel, clause_value}
 use Rattle.craig_base.specs.Arena.{FlaggedClause, LiveClause, ArenaView, IsArena, IsLive, ChangesOnly, clause_of, clause_at, literals_at, literals_of, clauses_of, with_clause}
+use Rattle.craig_spec.proofs.MemberLemmas.{Contains-later, Contains-image}
 
 abbrev live : ℕ → FlaggedClause → LiveClause
 live id c = record { id = id; clause = c }
-
-Contains-later : {A : Type 0} (y : A) (xs : List A) (x : A) → Contains xs x → Contains (y ∷ xs) x
-Contains-later y xs x (k, within, at) = (suc k, omega arith, at)
 
 -- what is found stands in the list
 found-cases : (b : Bool) (d : LiveClause) (cs : List LiveClause) (id : ℕ) (c : FlaggedClause) → eqb d.id id ≡ b → cond b (Some d.clause) (clause_of cs id) ≡ Some c → (clause_of cs id ≡ Some c → Contains cs (live id c)) → Contains (d ∷ cs) (live id c)
@@ -49,16 +47,11 @@ some-clause : (o : Option FlaggedClause) (c : Clause) → option_map (λ f. f.li
 some-clause None c is = absurd (let no : None ≡ Some c = is in cc)
 some-clause (Some f) c is = (f, refl, let same : Some f.literals ≡ Some c = is in cc)
 
-Contains-map : {A B : Type 0} (f : A → B) (xs : List A) (x : A) → Contains xs x → Contains (map f xs) (f x)
-Contains-map f [] x (k, within, at) = absurd (omega arith)
-Contains-map f (y ∷ xs) x (zero, within, at) = (0, omega arith, ap f at)
-Contains-map f (y ∷ xs) x (suc k, within, at) = Contains-later (f y) (map f xs) (f x) (Contains-map f xs x (k, omega arith, at))
-
 -- its literals stand in the list of the literals
 pub Contains-clauses_of : (a : ArenaView) (id : ℕ) (c : Clause) → literals_of a id ≡ Some c → Contains (clauses_of a) c
 Contains-clauses_of a id c is =
     let f = some-clause (clause_at a id) c is in
-    subst (Contains (clauses_of a)) f.2 (Contains-map (λ (d : LiveClause). d.clause.literals) a.clauses (live id f.0) (Contains-found a.clauses id f.0 f.1))
+    subst (Contains (clauses_of a)) f.2 (Contains-image (λ (d : LiveClause). d.clause.literals) a.clauses (live id f.0) (Contains-found a.clauses id f.0 f.1))
 
 mapped-from : (cs : List LiveClause) (c : Clause) (k : ℕ) → k < length (map (λ d. d.clause.literals) cs) → get_or (map (λ d. d.clause.literals) cs) k c ≡ c → (d : LiveClause) × Contains cs d × (d.clause.literals ≡ c)
 mapped-from [] c k within at = absurd (omega arith)

@@ -4,15 +4,7 @@ use Rattle.std.specs.Option.{option_map}
 use Rattle.craig_spec.specs.Literal.{Clause}
 use Rattle.craig_spec.specs.Chain.{SameLiterals, GivesSame}
 use Rattle.craig_base.specs.Arena.{FlaggedClause, ArenaView, IsReordered, OnlyReorders, clause_at, literals_of}
-
-pub SameLiterals-refl : (c : Clause) → SameLiterals c c
-SameLiterals-refl c l = (λ h. h, λ h. h)
-
-pub SameLiterals-sym : (c d : Clause) → SameLiterals c d → SameLiterals d c
-SameLiterals-sym c d same l = ((same l).1, (same l).0)
-
-pub SameLiterals-trans : (c d e : Clause) → SameLiterals c d → SameLiterals d e → SameLiterals c e
-SameLiterals-trans c d e one two l = (λ h. (two l).0 ((one l).0 h), λ h. (one l).1 ((two l).1 h))
+use Rattle.craig_spec.proofs.ClauseLemmas.{SameLiterals-refl, SameLiterals-sym, SameLiterals-trans}
 
 IsReordered-refl : (c : FlaggedClause) → IsReordered c c
 IsReordered-refl c = record { literals = SameLiterals-refl c.literals; flags = refl }

@@ -10,7 +10,7 @@ mod arena;
 mod clause_id;
 mod clause_list;
 mod flags;
-mod laws;
+pub mod laws;
 mod literal;
 mod literal_list;
 mod names;
@@ -24,10 +24,6 @@ pub use arena::Arena;
 pub use clause_id::ClauseId;
 pub use clause_list::Clauses;
 pub use flags::Flags;
-pub use laws::{
-    clauses_are_found, live_ids_were_given, models_of_an_arena, no_longer_list, one_clause_changes,
-    reordered_clauses, values_are_an_assignment,
-};
 pub use literal::Lit;
 pub use literal_list::Lits;
 pub use names::Names;

@@ -15,7 +15,7 @@ use Rattle.craig_spec.specs.PartialInterpolant.{Label, Labelling, AB, origin_val
 use Rattle.craig_base.specs.declared.clause_id.ClauseId.{ClauseId}
 use Rattle.craig_proof.specs.Tracer.{Appends, chain_of, original_step, derived_step}
 use Rattle.craig_proof.specs.declared.step.Step.{Step}
-use Rattle.craig_aig.specs.Arenas.{IsArena}
+use Rattle.craig_aig.specs.Arenas.{IsAig}
 use Rattle.craig_aig.specs.Cones.{cone}
 use Rattle.craig_aig.specs.Edges.{Edge}
 use Rattle.craig_aig.specs.Growth.{Extends, KeepsEdges}
@@ -31,7 +31,7 @@ use Rattle.craig_itp.proofs.GrowthLemmas.{KeepsEdges-same, KeepsEdges-trans, len
 use Rattle.craig_itp.proofs.ToldEdgesLemmas.{step_ids, id_at, at_step}
 
 -- nothing was told
-pub AreEdges-nothing : (l : Labelling) (nodes : List Node) → IsArena nodes → AreEdges l [] (length nodes) nodes []
+pub AreEdges-nothing : (l : Labelling) (nodes : List Node) → IsAig nodes → AreEdges l [] (length nodes) nodes []
 AreEdges-nothing l nodes arena = record {
   is_arena = arena;
   within = omega arith;
@@ -51,7 +51,7 @@ IsEdgeOf-grown l steps nodes new id e grown kept h =
       inputs = λ x reached. h.inputs x (subst (λ k. Contains k x) keeps.cone_is reached);
     }
 
-pub AreEdges-grown : (l : Labelling) (steps : List ToldStep) (older : ℕ) (nodes new : List Node) (edges : List StepEdge) → AreEdges l steps older nodes edges → Extends nodes new → KeepsEdges nodes new → IsArena new → AreEdges l steps older new edges
+pub AreEdges-grown : (l : Labelling) (steps : List ToldStep) (older : ℕ) (nodes new : List Node) (edges : List StepEdge) → AreEdges l steps older nodes edges → Extends nodes new → KeepsEdges nodes new → IsAig new → AreEdges l steps older new edges
 AreEdges-grown l steps older nodes new edges h grown kept arena = record {
   is_arena = arena;
   within = omega (arith, h.within, length-Extends nodes new grown);
@@ -121,7 +121,7 @@ chain_input l steps step older nodes edges x h (inl both) = inl both
 chain_input l steps step older nodes edges x h (inr r) = MayEnter-pushed l steps step x ((h.each r.step r.known).inputs x r.reached)
 
 -- the edge of a chain is told; the arena grew by it
-pub AreEdges-derived : (l : Labelling) (t : Told) (older : ℕ) (nodes grown : List Node) (edges : List StepEdge) (new : StepEdge) (c : Clause) (first : ℕ) (rest : List Step) → AreEdges l t.steps older nodes edges → IsTold t → IsAbove t new.id.0 → Extends nodes grown → KeepsEdges nodes grown → IsArena grown → new.edge.place < length grown → IsChainEdge l.label edges nodes first (chain_of rest) grown new.edge → AreEdges l (t.steps ++ derived_step new.id.0 c first rest ∷ []) older grown (edges ++ new ∷ [])
+pub AreEdges-derived : (l : Labelling) (t : Told) (older : ℕ) (nodes grown : List Node) (edges : List StepEdge) (new : StepEdge) (c : Clause) (first : ℕ) (rest : List Step) → AreEdges l t.steps older nodes edges → IsTold t → IsAbove t new.id.0 → Extends nodes grown → KeepsEdges nodes grown → IsAig grown → new.edge.place < length grown → IsChainEdge l.label edges nodes first (chain_of rest) grown new.edge → AreEdges l (t.steps ++ derived_step new.id.0 c first rest ∷ []) older grown (edges ++ new ∷ [])
 AreEdges-derived l t older nodes grown edges new c first rest h told above extends kept arena within chain =
     AreEdges-pushed l t (derived_step new.id.0 c first rest) older grown edges new (AreEdges-grown l t.steps older nodes grown edges h extends kept arena) told above refl within
     (λ s. chain.value s (partial_values l s t.steps) (λ step known. (h.each step known).value s))
@@ -190,14 +190,14 @@ IsCutTracer-forgotten sides cut marks id t u older nodes edges h told =
     (record { cut_within = h.cut_within; edges_are = AreEdges-forgotten (labelling sides cut marks) id t older nodes edges h.edges_are })
 
 -- when a call wanted memory in vain: the arena perhaps grew
-pub IsCutTracer-failed : (sides : SidesView) (cut : ℕ) (marks : ℕ → Label) (t u : Told) (older : ℕ) (nodes new : List Node) (edges same : List StepEdge) → IsCutTracer sides cut marks t older nodes edges → Extends nodes new → KeepsEdges nodes new → IsArena new → same ≡ edges → u ≡ t → IsCutTracer sides cut marks u older new same
+pub IsCutTracer-failed : (sides : SidesView) (cut : ℕ) (marks : ℕ → Label) (t u : Told) (older : ℕ) (nodes new : List Node) (edges same : List StepEdge) → IsCutTracer sides cut marks t older nodes edges → Extends nodes new → KeepsEdges nodes new → IsAig new → same ≡ edges → u ≡ t → IsCutTracer sides cut marks u older new same
 IsCutTracer-failed sides cut marks t u older nodes new edges same h grown kept arena e told =
     subst (λ (v : Told). IsCutTracer sides cut marks v older new same) (sym told)
     (subst (IsCutTracer sides cut marks t older new) (sym e)
     (record { cut_within = h.cut_within; edges_are = AreEdges-grown (labelling sides cut marks) t.steps older nodes new edges h.edges_are grown kept arena }))
 
 -- when a step was told and its edge put behind the others
-module _ (sides : SidesView) (cut : ℕ) (marks : ℕ → Label) (t u : Told) (older : ℕ) (nodes grown : List Node) (edges more : List StepEdge) (id : ClauseId) (e : Edge) (h : IsCutTracer sides cut marks t older nodes edges) (told : IsTold t) (above : ForSome (Some t) (λ t. IsAbove t id.0)) (extends : Extends nodes grown) (kept : KeepsEdges nodes grown) (arena : IsArena grown) (within : e.place < length grown) (pushed : more ≡ edges ++ record { id = id; edge = e } ∷ []) where
+module _ (sides : SidesView) (cut : ℕ) (marks : ℕ → Label) (t u : Told) (older : ℕ) (nodes grown : List Node) (edges more : List StepEdge) (id : ClauseId) (e : Edge) (h : IsCutTracer sides cut marks t older nodes edges) (told : IsTold t) (above : ForSome (Some t) (λ t. IsAbove t id.0)) (extends : Extends nodes grown) (kept : KeepsEdges nodes grown) (arena : IsAig grown) (within : e.place < length grown) (pushed : more ≡ edges ++ record { id = id; edge = e } ∷ []) where
   told_now : (step : ToldStep) → Appends (Some t) (Some u) step → u ≡ with_step t step
   told_now step appends = cc
 

@@ -10,7 +10,7 @@ use Rattle.craig_spec.specs.PartialInterpolant.{Label, partial_interpolant}
 use Rattle.craig_label.specs.Sides.{Range, SidesView, IsSides, range_of, is_in_a, is_in_b, occurs_in_a, occurs_in_b, side_of, side_at}
 use Rattle.craig_label.specs.declared.side.Side.TheVariants.{ALocal, Shared, BLocal, Absent}
 use Rattle.craig_system.specs.Rules.{labelling}
-use Rattle.craig_aig.specs.Arenas.{IsArena}
+use Rattle.craig_aig.specs.Arenas.{IsAig}
 use Rattle.craig_aig.specs.Cones.{cone}
 use Rattle.craig_aig.specs.Conjunctions.{constant_edge}
 use Rattle.craig_aig.specs.Edges.{Edge}
@@ -83,7 +83,7 @@ none_shared_last sides x is h =
     not_shared_without_b (occurs_in_a sides sides.parts x) (subst (λ (b : Bool). side_of (occurs_in_a sides sides.parts x) b ≡ Shared) (no_part_in_b sides.parts (range_of sides x) (λ r at. (is.ranges x r at).last)) h)
 
 -- so an interpolant there is the constant that has its value
-module _ (sides : SidesView) (marks : ℕ → Label) (steps : List ToldStep) (root : ℕ) (nodes : List Node) (edges : List Edge) (count : length edges ≡ sides.parts + 1) (each : EachOfCut sides marks steps root nodes edges) (is_sides : IsSides sides) (arena : IsArena nodes) (law : (nodes : List Node) (e : Edge) (s : Assignment) (value : Bool) → IsArena nodes → e.place < length nodes → ((x : ℕ) → Contains (cone nodes e) x → ⊥) → edge_value s nodes e ≡ value → e ≡ constant_edge value) where
+module _ (sides : SidesView) (marks : ℕ → Label) (steps : List ToldStep) (root : ℕ) (nodes : List Node) (edges : List Edge) (count : length edges ≡ sides.parts + 1) (each : EachOfCut sides marks steps root nodes edges) (is_sides : IsSides sides) (arena : IsAig nodes) (law : (nodes : List Node) (e : Edge) (s : Assignment) (value : Bool) → IsAig nodes → e.place < length nodes → ((x : ℕ) → Contains (cone nodes e) x → ⊥) → edge_value s nodes e ≡ value → e ≡ constant_edge value) where
   outer : (cut : ℕ) (value : Bool) → cut ≤ sides.parts → ((x : ℕ) → side_at sides cut x ≡ Shared → ⊥) → partial_interpolant (labelling sides cut marks) steps root [] ≡ value → slice_get edges cut ≡ Some (constant_edge value)
   outer cut value le none is =
       let at : slice_get edges cut ≡ Some (get_or edges cut (constant_edge value)) = slice_get-get_or edges cut (constant_edge value) (omega arith) in

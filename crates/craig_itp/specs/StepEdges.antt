@@ -5,7 +5,7 @@ use Rattle.craig_spec.specs.Occurs.{occurs_in_clause}
 use Rattle.craig_spec.specs.Truth.{Assignment}
 use Rattle.craig_spec.specs.Chain.{ChainStep, Original, ToldStep}
 use Rattle.craig_spec.specs.PartialInterpolant.{Label, A, AB, B, Labelling, leaf_a_value, leaf_b_value, chain_value, partial_interpolant}
-use Rattle.craig_aig.specs.Arenas.{IsArena}
+use Rattle.craig_aig.specs.Arenas.{IsAig}
 use Rattle.craig_aig.specs.Cones.{cone}
 use Rattle.craig_aig.specs.Edges.{Edge}
 use Rattle.craig_aig.specs.Growth.{KeepsEdges}
@@ -58,7 +58,7 @@ pub record IsEdgeOf (l : Labelling) (steps : List ToldStep) (nodes : List Node) 
 
 -- what a tracer keeps: an arena whose first nodes are the older ones, whose edges it keeps, and for each told step at the same place its edge
 pub record AreEdges (l : Labelling) (steps : List ToldStep) (older : ℕ) (nodes : List Node) (edges : List StepEdge) : Type 0 where
-  pub is_arena : IsArena nodes
+  pub is_arena : IsAig nodes
   pub within : older ≤ length nodes
   pub kept : KeepsEdges (take older nodes) nodes
   pub ids : map (λ (e : StepEdge). e.id.0) edges ≡ map (λ (s : ToldStep). s.id) steps

@@ -1,6 +1,6 @@
 //! The edges of the rules for one told clause.
 ghost use Rattle.std.specs.Prelude.{◌≡◌, ◌<◌, ◌≤◌, All, AllPairs, IfOk, length};
-ghost use Rattle.craig_aig.specs.Arenas.{IsArena};
+ghost use Rattle.craig_aig.specs.Arenas.{IsAig};
 ghost use Rattle.craig_aig.specs.Growth.{Extends, KeepsEdges};
 ghost use Rattle.craig_system.specs.Rules.{labelling};
 ghost use Rattle.craig_proof.specs.Tracer.{chain_of};
@@ -28,7 +28,7 @@ pub(crate) fn leaf_edge<S: System>(
     ensures leaf { IfOk result (IsLeafEdge (labelling sides.now cut (S.marks system.now)) part.0 lits.now aig.new) }
     ensures extends { Extends aig.old aig.new }
     ensures kept { KeepsEdges aig.old aig.new }
-    ensures is_arena { IsArena aig.new }
+    ensures is_arena { IsAig aig.new }
 {
     if part.0 <= cut {
         system.leaf_a(aig, sides, cut, lits)
@@ -48,7 +48,7 @@ pub(crate) fn chain_edge<S: System>(
     rest: &[Step],
 ) -> Result<Edge, AllocError>
     requires cut { cut ≤ sides.now.parts }
-    requires is_arena { IsArena aig.old }
+    requires is_arena { IsAig aig.old }
     requires rising { AllPairs (λ r s. r.id.0 < s.id.0) edges.now }
     requires within { All (λ s. s.edge.place < length aig.old) edges.now }
     requires first { HasEdge edges.now first.0 }
@@ -57,7 +57,7 @@ pub(crate) fn chain_edge<S: System>(
     ensures chain { IfOk result (IsChainEdge (labelling sides.now cut (S.marks system.now)).label edges.now aig.old first.0 (chain_of rest.now) aig.new) }
     ensures extends { Extends aig.old aig.new }
     ensures kept { KeepsEdges aig.old aig.new }
-    ensures is_arena { IsArena aig.new }
+    ensures is_arena { IsAig aig.new }
 {
     let mut edge = known_edge(edges, first);
     for step in rest {

@@ -4,7 +4,7 @@ ghost use Rattle.craig_base.specs.Clauses.{IsNormal};
 ghost use Rattle.craig_spec.specs.Chain.{Told, IsAbove, IsUnforgotten, ChainOk, Derived, antecedents, clause_told, nothing_told, without_id};
 ghost use Rattle.craig_spec.specs.Needed.{Reclaims};
 ghost use Rattle.craig_proof.specs.Tracer.{chain_of, original_step, derived_step, Appends};
-ghost use Rattle.craig_aig.specs.Arenas.{IsArena};
+ghost use Rattle.craig_aig.specs.Arenas.{IsAig};
 ghost use Rattle.craig_aig.specs.Growth.{Extends, KeepsEdges};
 ghost use Rattle.craig_itp.specs.CutTracer.{Setting, setting};
 ghost use Rattle.craig_itp.specs.Interpolants.{AreNoted, HasPartialValue, HasSharedInputs};
@@ -93,7 +93,7 @@ impl<'a, S: System> CutTracer<'a, S> {
         ensures nodes { result ≡ self.entry.nodes }
         ensures extends { Extends self.entry.older result }
         ensures kept { KeepsEdges self.entry.older result }
-        ensures is_arena { IsArena result }
+        ensures is_arena { IsAig result }
     {
         self.aig
     }

@@ -1,17 +1,16 @@
 //! Interpolants of a refutation that a chain store keeps.
 ghost use Rattle.std.specs.Prelude.{◌≡◌, ◌<◌, ◌≤◌, [], Some, length, IfOk};
 ghost use Rattle.craig_spec.specs.Chain.{IsUnforgotten, clause_told, nothing_told};
-ghost use Rattle.craig_aig.specs.Arenas.{IsArena};
+ghost use Rattle.craig_aig.specs.Arenas.{IsAig};
 ghost use Rattle.craig_aig.specs.Growth.{Extends, KeepsEdges};
 ghost use Rattle.craig_itp.specs.CutTracer.{setting};
 ghost use Rattle.craig_itp.specs.Interpolants.{AreInterpolants, IsInterpolant, NeededAreNoted};
 
-use crate::laws::{cuts_of_a_refutation, partial_values_of_the_needed_part};
 use crate::{CutTracer, Edges};
-use craig_aig::{Aig, Edge, no_input_is_constant};
+use craig_aig::{Aig, Edge};
 use craig_base::ClauseId;
 use craig_label::Sides;
-use craig_proof::{ChainStore, needed_part_stands};
+use craig_proof::ChainStore;
 use craig_system::System;
 use std::alloc::{AllocError, Global};
 use std::mem::replace;
@@ -28,8 +27,8 @@ fn replayed_edge<S: System>(
     ensures interpolant { IfOk result (IsInterpolant tracer.old.sides tracer.old.cut (S.marks tracer.old.system) store.now.told.steps root.0 tracer.new.nodes) }
     ensures kept { setting (S.marks tracer.new.system) tracer.new ≡ setting (S.marks tracer.old.system) tracer.old }
 {
-    needed_part_stands();
-    partial_values_of_the_needed_part();
+    craig_proof::laws::needed_part_stands();
+    crate::laws::partial_values_of_the_needed_part();
     store.each_clause_follows();
     store.replay(root, tracer)?;
     match tracer.edge(root) {
@@ -60,7 +59,7 @@ pub fn interpolate<S: System>(
     ensures interpolant { IfOk result (IsInterpolant sides.now cut (S.marks system.now) store.now.told.steps root.0 aig.new) }
     ensures extends { Extends aig.old aig.new }
     ensures kept { KeepsEdges aig.old aig.new }
-    ensures is_arena { IsArena aig.new }
+    ensures is_arena { IsAig aig.new }
 {
     let given = replace(aig, Aig::new(alloc));
     let mut tracer = CutTracer::new(alloc, given, sides, cut, system);
@@ -86,10 +85,10 @@ pub fn sequence<S: System>(
     ensures interpolants { IfOk result (AreInterpolants sides.now (S.marks system.now) store.now.told.steps root.0 aig.new) }
     ensures extends { Extends aig.old aig.new }
     ensures kept { KeepsEdges aig.old aig.new }
-    ensures is_arena { IsArena aig.new }
+    ensures is_arena { IsAig aig.new }
 {
-    no_input_is_constant();
-    cuts_of_a_refutation();
+    craig_aig::laws::no_input_is_constant();
+    crate::laws::cuts_of_a_refutation();
     store.each_clause_follows();
     let mut edges = Edges::new(alloc);
     for cut in 0..=sides.parts() {

@@ -9,7 +9,6 @@ ghost use Rattle.craig_label.specs.Sides.{SidesView};
 ghost use Rattle.craig_system.specs.Rules.{labelling};
 ghost use Rattle.craig_itp.specs.Labellings.{AddedHold, AreStepsOf, CrossingAreFalse, IsNotedRefutation, MeetsRules, PartsHold, ValueImplies, cut_value};
 
-use craig_proof::told_steps_stand;
 
 /// The values by which partial interpolants are defined are those that the rules give at each step, and no others are.
 /// The value of a new step is by the values before it, which stay, also when an id is forgotten or steps are given up.
@@ -23,7 +22,7 @@ pub fn partial_values_by_steps()
     ensures reclaimed { (l : Labelling) (s : Assignment) (before after : Told) → IsTold before → Reclaims before after → (step : ToldStep) → Contains after.steps step → partial_values l s after.steps step.id ≡ partial_values l s before.steps step.id }
     ensures fewer { (l : Labelling) (s : Assignment) (t u : Told) → IsTold t → IsTold u → AreStepsOf u.steps t.steps → (step : ToldStep) → Contains u.steps step → partial_values l s u.steps step.id ≡ partial_values l s t.steps step.id }
 {
-    told_steps_stand();
+    craig_proof::laws::told_steps_stand();
 }
 
 /// The part of the steps that a root needs gives each needed id, the root among them, the value that all steps give.

@@ -11,13 +11,9 @@ mod edge_list;
 #[cfg(test)]
 mod example;
 mod interpolation;
-mod laws;
+pub mod laws;
 mod step_edge;
 
 pub use cut_tracer::CutTracer;
 pub use edge_list::Edges;
 pub use interpolation::{interpolate, sequence};
-pub use laws::{
-    cuts_of_a_refutation, marks_by_strength, partial_values_by_steps,
-    partial_values_of_the_needed_part, two_labellings,
-};

@@ -7,7 +7,7 @@
 #![tactic(auto)]
 
 mod chain_store;
-mod laws;
+pub mod laws;
 mod marks;
 mod pair;
 mod place;
@@ -19,10 +19,6 @@ mod stored_step;
 mod tracer;
 
 pub use chain_store::ChainStore;
-pub use laws::{
-    chain_follows, chain_grows, chain_over_same_clauses, chain_variables, covered_chain_is_told,
-    covering_is_kept, needed_part_stands, steps_are_found, told_clauses_follow, told_steps_stand,
-};
 pub use pair::Pair;
 pub use silent::Silent;
 pub use step::Step;

@@ -8,7 +8,7 @@
 mod admission;
 mod bytes;
 mod command;
-mod laws;
+pub mod laws;
 mod line;
 mod lines;
 mod literal;
@@ -22,7 +22,6 @@ mod words;
 pub use admission::admit;
 pub use bytes::Bytes;
 pub use command::Command;
-pub use laws::{cut_anywhere, decimal_forms, given_before, whole_stream};
 pub use line::Line;
 pub use lines::{LINE_LIMIT, Lines};
 pub use numbers::Numbers;

@@ -206,8 +206,8 @@ fn refusals_have_the_numbers_of_the_replies(rt: HostRuntime) {
 
 #[test]
 fn the_laws_are_called(_rt: HostRuntime) {
-    cut_anywhere();
-    whole_stream();
-    given_before();
-    decimal_forms();
+    crate::laws::cut_anywhere();
+    crate::laws::whole_stream();
+    crate::laws::given_before();
+    crate::laws::decimal_forms();
 }

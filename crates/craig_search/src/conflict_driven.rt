@@ -11,10 +11,10 @@ use crate::learning::learn;
 use crate::refuting::refuted;
 use crate::{Places, Verdict};
 use craig_analyze::Analysis;
-use craig_base::{ClauseId, Lit, Part, clauses_are_found, models_of_an_arena, no_longer_list};
+use craig_base::{ClauseId, Lit, Part};
 use craig_order::Order;
-use craig_proof::{Tracer, chain_follows, chain_variables, covering_is_kept};
-use craig_watch::{Held, levels_rise};
+use craig_proof::Tracer;
+use craig_watch::Held;
 use std::alloc::{AllocError, Global};
 
 /// Searches for a model of the held clauses and the assumptions.
@@ -54,8 +54,8 @@ pub fn search<T: Tracer>(
     ensures tells { is_some (T.told tracer.new) ≡ is_some (T.told tracer.old) }
     ensures kept { T.kept tracer.new ≡ T.kept tracer.old }
 {
-    chain_follows();
-    chain_variables();
+    craig_proof::laws::chain_follows();
+    craig_proof::laws::chain_variables();
     prove!(assumptions.is_empty() && limit.is_none() && held.level() == 0);
     let outcome = run(held, order, tracer, &mut Analysis::new(alloc))?;
     match outcome {
@@ -83,11 +83,11 @@ fn run<T: Tracer>(
     ensures tells { is_some (T.told tracer.new) ≡ is_some (T.told tracer.old) }
     ensures kept { T.kept tracer.new ≡ T.kept tracer.old }
 {
-    clauses_are_found();
-    levels_rise();
-    models_of_an_arena();
-    no_longer_list();
-    covering_is_kept();
+    craig_base::laws::clauses_are_found();
+    craig_watch::laws::levels_rise();
+    craig_base::laws::models_of_an_arena();
+    craig_base::laws::no_longer_list();
+    craig_proof::laws::covering_is_kept();
     loop {
         match held.propagate()? {
             None => match order.next(held) {

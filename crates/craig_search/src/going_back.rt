@@ -8,7 +8,7 @@ ghost use Rattle.craig_search.specs.Leaves.{IsReady};
 
 use craig_base::Lit;
 use craig_order::Order;
-use craig_watch::{Held, entries_have_places, levels_rise, parts_keep_values};
+use craig_watch::Held;
 
 // Goes back to a level, and gives the variables that become free back to the order.
 pub(crate) fn go_back(held: &mut Held, order: &mut Order, level: u32)
@@ -18,8 +18,8 @@ pub(crate) fn go_back(held: &mut Held, order: &mut Order, level: u32)
     ensures ready { IsReady held.new order.new }
     ensures consistent { IsConsistent held.new }
 {
-    entries_have_places();
-    parts_keep_values();
+    craig_watch::laws::entries_have_places();
+    craig_watch::laws::parts_keep_values();
     let place = first_above(held, level);
     give_back_each(order, &held.trail()[place..]);
     held.back_to(level);
@@ -44,8 +44,8 @@ fn first_above(held: &Held, level: u32) -> usize
     ensures upto { (k : ℕ) (d : TrailEntry) → k < result → (slice_index_or held.now.trail k d).level ≤ level }
     ensures above { (k : ℕ) (d : TrailEntry) → result ≤ k → k < length held.now.trail → level < (slice_index_or held.now.trail k d).level }
 {
-    entries_have_places();
-    levels_rise();
+    craig_watch::laws::entries_have_places();
+    craig_watch::laws::levels_rise();
     let trail = held.trail();
     let mut place = trail.len();
     while place > 0 {

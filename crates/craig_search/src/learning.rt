@@ -11,10 +11,8 @@ use crate::going_back::go_back;
 use craig_analyze::{Analysis, Learnt};
 use craig_base::{ClauseId, Flags, Lit};
 use craig_order::Order;
-use craig_proof::{
-    Tracer, chain_follows, chain_variables, covered_chain_is_told, covering_is_kept,
-};
-use craig_watch::{Held, asserting_clauses_may_be_held, entries_have_places};
+use craig_proof::Tracer;
+use craig_watch::Held;
 use std::alloc::AllocError;
 
 // Learns a clause from one that is false above level 0, goes back to where it forces its first literal, and holds it.
@@ -39,8 +37,8 @@ pub(crate) fn learn<T: Tracer>(
     ensures tells { is_some (T.told tracer.new) ≡ is_some (T.told tracer.old) }
     ensures kept { T.kept tracer.new ≡ T.kept tracer.old }
 {
-    asserting_clauses_may_be_held();
-    entries_have_places();
+    craig_watch::laws::asserting_clauses_may_be_held();
+    craig_watch::laws::entries_have_places();
     let learnt = analysis.learn_with(held, conflict)?;
     let lits = learnt.lits.as_slice();
     raise(order, lits);
@@ -79,10 +77,10 @@ fn hold_learnt<T: Tracer>(
     ensures tells { is_some (T.told tracer.new) ≡ is_some (T.told tracer.old) }
     ensures kept { T.kept tracer.new ≡ T.kept tracer.old }
 {
-    chain_follows();
-    chain_variables();
-    covered_chain_is_told();
-    covering_is_kept();
+    craig_proof::laws::chain_follows();
+    craig_proof::laws::chain_variables();
+    craig_proof::laws::covered_chain_is_told();
+    craig_proof::laws::covering_is_kept();
     let flags = Flags {
         learnt: true,
         kept: false,

@@ -6,7 +6,7 @@ ghost use Rattle.craig_search.specs.Searching.{IsRefutation};
 
 use craig_analyze::Analysis;
 use craig_base::ClauseId;
-use craig_proof::{Tracer, covered_chain_is_told, covering_is_kept};
+use craig_proof::Tracer;
 use craig_watch::Held;
 use std::alloc::AllocError;
 
@@ -26,8 +26,8 @@ pub(crate) fn refuted<T: Tracer>(
     ensures tells { is_some (T.told tracer.new) ≡ is_some (T.told tracer.old) }
     ensures kept { T.kept tracer.new ≡ T.kept tracer.old }
 {
-    covered_chain_is_told();
-    covering_is_kept();
+    craig_proof::laws::covered_chain_is_told();
+    craig_proof::laws::covering_is_kept();
     let empty = analysis.refute_with(held, conflict)?;
     let lits = empty.lits.as_slice();
     let rest = empty.rest.as_slice();

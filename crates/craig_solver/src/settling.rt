@@ -10,11 +10,11 @@ ghost use Rattle.craig_search.specs.Leaves.{IsReady, IsAtRest};
 ghost use Rattle.craig_solver.specs.Settling.{AreValuesOf, AssignsAll, IsAnswerFor, IsAtRoot, root_of_verdict};
 
 use crate::Answer;
-use craig_base::{ClauseId, Lit, Values, Var, values_are_an_assignment};
+use craig_base::{ClauseId, Lit, Values, Var};
 use craig_order::Order;
 use craig_proof::Tracer;
 use craig_search::Verdict;
-use craig_watch::{Held, Value, entries_have_places};
+use craig_watch::{Held, Value};
 use std::alloc::{AllocError, Global};
 
 // The answer for a verdict. A model is read from the trail, and then the level is 0 again.
@@ -51,7 +51,7 @@ fn read_model(alloc: Global, held: &mut Held, order: &mut Order) -> Result<Value
     ensures ready { OnOk result (IsReady held.new order.new) }
     ensures consistent { OnOk result (IsConsistent held.new) }
 {
-    entries_have_places();
+    craig_watch::laws::entries_have_places();
     let values = values_of(alloc, held)?;
     give_back_each(order, held.trail());
     held.back_to(0);
@@ -63,8 +63,8 @@ fn values_of(alloc: Global, held: &Held) -> Result<Values, AllocError>
     requires assigned { (v : ℕ) → v < held.now.vars → IsAssigned held.now.trail v }
     ensures { IfOk result (AreValuesOf held.now.vars held.now.trail) }
 {
-    entries_have_places();
-    values_are_an_assignment();
+    craig_watch::laws::entries_have_places();
+    craig_base::laws::values_are_an_assignment();
     let vars = held.vars();
     let mut values = Values::new(alloc, vars)?;
     for var in 0..vars {

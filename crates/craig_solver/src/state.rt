@@ -13,11 +13,9 @@ ghost use Rattle.craig_solver.specs.Told.{TellsAnswer};
 use crate::Answer;
 use crate::copying::copy_of;
 use crate::settling::{answer_for, forget_told, root_of};
-use craig_base::{
-    ClauseId, Flags, Lit, Lits, Normal, Part, clauses_are_found, models_of_an_arena, normal,
-};
+use craig_base::{ClauseId, Flags, Lit, Lits, Normal, Part, normal};
 use craig_order::Order;
-use craig_proof::{Tracer, covered_chain_is_told, covering_is_kept, steps_are_found};
+use craig_proof::Tracer;
 use craig_search::search;
 use craig_watch::Held;
 use std::alloc::{AllocError, Global};
@@ -53,7 +51,7 @@ impl<T: Tracer> State<T> {
         ensures tracer { result.tracer ≡ tracer }
         ensures root { result.root ≡ None }
     {
-        covering_is_kept();
+        craig_proof::laws::covering_is_kept();
         State {
             accepted: Vec::new(alloc),
             held: Held::new(alloc),
@@ -127,8 +125,8 @@ impl<T: Tracer> State<T> {
         ensures tells { is_some (T.told self.new.tracer) ≡ is_some (T.told self.old.tracer) }
         ensures same { T.kept self.new.tracer ≡ T.kept self.old.tracer }
     {
-        covered_chain_is_told();
-        covering_is_kept();
+        craig_proof::laws::covered_chain_is_told();
+        craig_proof::laws::covering_is_kept();
         let id = self.held.hold(lits, ORIGINAL)?;
         self.tracer.original(id, part, lits)?;
         self.kept.push(id)?;
@@ -157,9 +155,9 @@ impl<T: Tracer> State<T> {
         ensures tells { is_some (T.told self.new.tracer) ≡ is_some (T.told self.old.tracer) }
         ensures same { T.kept self.new.tracer ≡ T.kept self.old.tracer }
     {
-        clauses_are_found();
-        models_of_an_arena();
-        steps_are_found();
+        craig_base::laws::clauses_are_found();
+        craig_base::laws::models_of_an_arena();
+        craig_proof::laws::steps_are_found();
         let alloc = *self.accepted.allocator();
         self.forget_root();
         let held = &mut self.held;
@@ -182,7 +180,7 @@ impl<T: Tracer> State<T> {
         ensures tells { is_some (T.told self.new.tracer) ≡ is_some (T.told self.old.tracer) }
         ensures same { T.kept self.new.tracer ≡ T.kept self.old.tracer }
     {
-        covering_is_kept();
+        craig_proof::laws::covering_is_kept();
         let root = self.root;
         forget_told(&mut self.tracer, root);
         self.root = None;

@@ -3,7 +3,7 @@ use Rattle.std.proofs.Common.{◌≡◌, ◌<◌, ◌≤◌, List, ◌++◌, len
 use Rattle.std.specs.Result.{IfOk}
 use Rattle.std.specs.Prelude.{Result, Ok, Err}
 use Rattle.craig_spec.specs.Truth.{Assignment}
-use Rattle.craig_aig.specs.Arenas.{IsArena}
+use Rattle.craig_aig.specs.Arenas.{IsAig}
 use Rattle.craig_aig.specs.Cones.{cone}
 use Rattle.craig_aig.specs.Edges.{Edge}
 use Rattle.craig_aig.specs.Growth.{Extends, KeepsEdge, KeepsEdges}
@@ -34,7 +34,7 @@ Grows-trans a b c p q = record {
   is_arena = q.is_arena;
 }
 
-pub Grows-call : (a b : List Node) → Extends a b → KeepsEdges a b → IsArena b → Grows a b
+pub Grows-call : (a b : List Node) → Extends a b → KeepsEdges a b → IsAig b → Grows a b
 Grows-call a b extends kept is_arena = record { extends = extends; kept = kept; is_arena = is_arena }
 
 -- an edge of an arena has its place in the arenas that this one grows into, and keeps its value and its cone

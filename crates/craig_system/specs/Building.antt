@@ -5,7 +5,7 @@ use Rattle.craig_spec.specs.Literal.{Literal, Clause}
 use Rattle.craig_spec.specs.Occurs.{occurs_in_clause}
 use Rattle.craig_spec.specs.Truth.{Assignment, clause_value, literal_value}
 use Rattle.craig_spec.specs.PartialInterpolant.{Label, A, AB, B, is_a, is_b}
-use Rattle.craig_aig.specs.Arenas.{IsArena}
+use Rattle.craig_aig.specs.Arenas.{IsAig}
 use Rattle.craig_aig.specs.Cones.{cone}
 use Rattle.craig_aig.specs.Edges.{Edge}
 use Rattle.craig_aig.specs.Growth.{Extends, KeepsEdges}
@@ -16,7 +16,7 @@ use Rattle.craig_aig.specs.declared.node.Node.{Node}
 pub record Grows (old new : List Node) : Type 0 where
   pub extends : Extends old new
   pub kept : KeepsEdges old new
-  pub is_arena : IsArena new
+  pub is_arena : IsAig new
 
 -- whether a label is AB
 abbrev pub is_ab : Label → Bool

@@ -1,7 +1,7 @@
 ghost use Rattle.std.specs.Prelude.{◌≡◌, ◌<◌, ◌≤◌, ℕ, length, IfOk};
 ghost use Rattle.craig_spec.specs.PartialInterpolant.{Label};
 ghost use Rattle.craig_label.specs.Marks.{label_of};
-ghost use Rattle.craig_aig.specs.Arenas.{IsArena};
+ghost use Rattle.craig_aig.specs.Arenas.{IsAig};
 ghost use Rattle.craig_aig.specs.Growth.{Extends, KeepsEdges};
 ghost use Rattle.craig_system.specs.Rules.{labelling, IsLeafA, IsLeafB, IsChoice, IsJoin};
 
@@ -50,7 +50,7 @@ pub trait System {
         ensures leaf { IfOk result (IsLeafA (labelling sides.now cut (marks self.now)).label lits.now aig.new) }
         ensures extends { Extends aig.old aig.new }
         ensures kept { KeepsEdges aig.old aig.new }
-        ensures is_arena { IsArena aig.new }
+        ensures is_arena { IsAig aig.new }
     {
         any_labelled(self, aig, sides, cut, Mark::B, lits)
     }
@@ -68,7 +68,7 @@ pub trait System {
         ensures leaf { IfOk result (IsLeafB (labelling sides.now cut (marks self.now)).label lits.now aig.new) }
         ensures extends { Extends aig.old aig.new }
         ensures kept { KeepsEdges aig.old aig.new }
-        ensures is_arena { IsArena aig.new }
+        ensures is_arena { IsAig aig.new }
     {
         let some = any_labelled(self, aig, sides, cut, Mark::A, lits)?;
         Ok(Aig::not(some))
@@ -84,7 +84,7 @@ pub trait System {
         ensures choice { IfOk result (IsChoice pivot aig.old left right aig.new) }
         ensures extends { Extends aig.old aig.new }
         ensures kept { KeepsEdges aig.old aig.new }
-        ensures is_arena { IsArena aig.new }
+        ensures is_arena { IsAig aig.new }
     {
         conjunction_of_either(aig, pivot, left, right)
     }
@@ -108,7 +108,7 @@ pub trait System {
         ensures join { IfOk result (IsJoin (labelling sides.now cut (marks self.now)).label pivot aig.old left right aig.new) }
         ensures extends { Extends aig.old aig.new }
         ensures kept { KeepsEdges aig.old aig.new }
-        ensures is_arena { IsArena aig.new }
+        ensures is_arena { IsAig aig.new }
     {
         match self.label(sides, cut, pivot.var()) {
             Mark::A => aig.or(left, right),

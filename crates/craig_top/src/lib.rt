@@ -8,7 +8,7 @@
 #![tactic(auto)]
 
 mod clause;
-mod laws;
+pub mod laws;
 mod model;
 mod refutation;
 mod reply;
@@ -20,7 +20,6 @@ mod status;
 mod top_call;
 mod verdict;
 
-pub use laws::nothing_left;
 pub use run::run_script;
 pub use session::Session;
 pub use settings::Settings;

@@ -16,12 +16,12 @@ ghost use Rattle.craig_top.specs.Sides.{AreSidesOf, parted};
 ghost use Rattle.craig_top.specs.Stored.{IsStored, stored_state};
 
 use crate::reply::append_unsatisfiable;
-use craig_aig::{Aig, Edge, bits_are_an_assignment};
+use craig_aig::{Aig, Edge};
 use craig_aiger::{Layout, OutName};
 use craig_base::{ClauseId, Lits, Names, Part};
-use craig_itp::{cuts_of_a_refutation, partial_values_of_the_needed_part, sequence};
+use craig_itp::sequence;
 use craig_label::Sides;
-use craig_proof::{ChainStore, needed_part_stands, steps_are_found, told_clauses_follow};
+use craig_proof::ChainStore;
 use craig_system::Pudlak;
 use std::alloc::{AllocError, Global};
 
@@ -45,12 +45,12 @@ pub fn append_refutation(
     ensures { OnOk result ((text : List ℕ) × IsRefutationBy names.now store.now.told.steps (Some root.0) (stored_state sides.now.parts names.now clauses.now) [] text
         × (out.new.items ≡ out.old.items ++ text)) }
 {
-    bits_are_an_assignment();
-    cuts_of_a_refutation();
-    needed_part_stands();
-    partial_values_of_the_needed_part();
-    steps_are_found();
-    told_clauses_follow();
+    craig_aig::laws::bits_are_an_assignment();
+    craig_itp::laws::cuts_of_a_refutation();
+    craig_proof::laws::needed_part_stands();
+    craig_itp::laws::partial_values_of_the_needed_part();
+    craig_proof::laws::steps_are_found();
+    craig_proof::laws::told_clauses_follow();
     let circuit = cut_circuit(alloc, names, sides, store, root)?;
     append_unsatisfiable(out, &[], &circuit)
 }

@@ -17,9 +17,9 @@ ghost use Rattle.craig_top.specs.Values.{AreOver, all_hold};
 use crate::model::{model_literals, named_variables};
 use crate::refutation::append_refutation;
 use crate::reply::append_model;
-use craig_base::{Lit, Lits, Names, Part, Values, values_are_an_assignment};
+use craig_base::{Lit, Lits, Names, Part, Values};
 use craig_label::Sides;
-use craig_proof::{ChainStore, steps_are_found};
+use craig_proof::ChainStore;
 use craig_solver::Answer;
 use std::alloc::{AllocError, Global};
 
@@ -43,8 +43,8 @@ pub fn append_verdict(
     ensures { OnOk result ((text : List ℕ) × IsVerdictBy names.now store.now.told.steps (root_of_answer answer.now) (stored_state sides.now.parts names.now clauses.now) [] text
         × (out.new.items ≡ out.old.items ++ text)) }
 {
-    values_are_an_assignment();
-    steps_are_found();
+    craig_base::laws::values_are_an_assignment();
+    craig_proof::laws::steps_are_found();
     match answer {
         Answer::Model(values) => append_values(alloc, names, clauses, values, out),
         Answer::Failed { root, .. } => {

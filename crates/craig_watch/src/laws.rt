@@ -10,7 +10,6 @@ ghost use Rattle.craig_watch.specs.declared.value.Value.TheVariants.{True, Free}
 ghost use Rattle.craig_watch.specs.Trail.{AreDistinct, AreLevels, IsFalse, Trail, assignment_of, decisions, entry_of, level_at, part_up_to, value_under};
 ghost use Rattle.craig_watch.specs.Held.{HeldView, IsComplete, IsConsistent, MayBeHeld, held_clause};
 
-use craig_base::models_of_an_arena;
 
 /// Levels rise along a trail and none is above the present one; a decision has a level above 0, so what has level 0
 /// has a reason; and there are no more levels and literals than known variables.
@@ -79,7 +78,7 @@ pub fn complete_trails_are_models()
     ensures literal { (t : Trail) (l : Literal) → AreDistinct t → value_under t l ≡ True → IsTrue (literal_value (assignment_of t) l) }
     ensures model { (a : ArenaView) (t : Trail) → IsArena a → AreDistinct t → IsComplete a t → ((id : ℕ) (c : Clause) (l : Literal) → held_clause a id ≡ Some c → Contains c l → value_under t l ≢ Free) → IsModel (assignment_of t) (clauses_of a) }
 {
-    models_of_an_arena();
+    craig_base::laws::models_of_an_arena();
 }
 
 #[cfg(test)]

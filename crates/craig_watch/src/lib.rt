@@ -7,7 +7,7 @@
 #![tactic(auto)]
 
 mod held;
-mod laws;
+pub mod laws;
 mod progress;
 mod propagation;
 mod standing;
@@ -15,9 +15,4 @@ mod trail_entry;
 mod value;
 
 pub use held::Held;
-pub use laws::{
-    asserting_clauses_may_be_held, complete_trails_are_models, conflicts_above_the_root,
-    entries_have_places, levels_rise, longer_trails_keep_values, parts_keep_values,
-    reasons_stand_before,
-};
 pub use value::Value;

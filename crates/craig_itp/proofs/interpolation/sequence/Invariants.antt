@@ -1,5 +1,5 @@
 use Rattle.std.proofs.Common.{◌≡◌, ◌<◌, ℕ, length, slice_get, Some}
-use Rattle.craig_aig.specs.Arenas.{IsArena}
+use Rattle.craig_aig.specs.Arenas.{IsAig}
 use Rattle.craig_aig.specs.Edges.{Edge}
 use Rattle.craig_aig.specs.Growth.{Extends, KeepsEdges}
 use Rattle.craig_itp.specs.Interpolants.{IsInterpolant}
@@ -11,5 +11,5 @@ invariant-loop-cut g l = record {
   each : (k : ℕ) (e : Edge) → slice_get l.edges k ≡ Some e → IsInterpolant l.sides k (g.S.System.marks l.system) l.store.told.steps l.root.0 l.aig e;
   extends : Extends l.fn.aig l.aig;
   kept : KeepsEdges l.fn.aig l.aig;
-  is_arena : 0 < l.cut → IsArena l.aig;
+  is_arena : 0 < l.cut → IsAig l.aig;
 }

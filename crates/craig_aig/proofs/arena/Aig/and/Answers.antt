@@ -1,7 +1,7 @@
 use Rattle.std.proofs.Common.{◌≡◌, ◌&&◌, sym, subst, ◌∙◌}
 use Rattle.std.proofs.lemmas.Result.{IfOk-weaker}
 use Rattle.craig_spec.specs.Truth.{Assignment}
-use Rattle.craig_aig.specs.Arenas.{IsArena}
+use Rattle.craig_aig.specs.Arenas.{IsAig}
 use Rattle.craig_aig.specs.Cones.{ConeWithin}
 use Rattle.craig_aig.specs.Conjunctions.{gate}
 use Rattle.craig_aig.specs.Edges.{Edge}
@@ -13,14 +13,14 @@ use Rattle.craig_aig.proofs.arena.Aig.and.Goals as goal
 
 pub returns-in-Some-clause-computes : goal.returns-in-Some-clause-computes
 returns-in-Some-clause-computes c =
-    λ s. edge_value-folded s _ c.args.left c.args.right _ (subst IsArena c.self.view_is c.self.invariant) (sym c.fold.ensures ∙ c.in-Some.is)
+    λ s. edge_value-folded s _ c.args.left c.args.right _ (subst IsAig c.self.view_is c.self.invariant) (sym c.fold.ensures ∙ c.in-Some.is)
 
 pub returns-in-Some-clause-cone : goal.returns-in-Some-clause-cone
 returns-in-Some-clause-cone c =
-    cone-folded _ c.args.left c.args.right _ (subst IsArena c.self.view_is c.self.invariant) (sym c.fold.ensures ∙ c.in-Some.is)
+    cone-folded _ c.args.left c.args.right _ (subst IsAig c.self.view_is c.self.invariant) (sym c.fold.ensures ∙ c.in-Some.is)
 
 pub returns-in-Some-clause-is_arena : goal.returns-in-Some-clause-is_arena
-returns-in-Some-clause-is_arena c = subst IsArena c.self.view_is c.self.invariant
+returns-in-Some-clause-is_arena c = subst IsAig c.self.view_is c.self.invariant
 
 pub returns-in-None-clause-within : goal.returns-in-None-clause-within
 returns-in-None-clause-within c = IfOk-weaker _ _ _ (λ e h. within-IsShared _ _ _ e h) c.share.ensures.shared

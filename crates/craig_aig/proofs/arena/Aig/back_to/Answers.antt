@@ -1,10 +1,10 @@
-use Rattle.craig_aig.proofs.ArenaLemmas.{IsArena-cut, cut-is}
+use Rattle.craig_aig.proofs.ArenaLemmas.{IsAig-cut, cut-is}
 use Rattle.craig_aig.proofs.FunctionLemmas.{KeepsEdges-take}
 use Rattle.craig_aig.proofs.arena.Aig.back_to.Goals as goal
 
 pub invariant_of-self : goal.invariant_of-self
 invariant_of-self c =
-    IsArena-cut _ _ _ c.args.level (rw c.nodes.ensures.value at c.truncate.ensures.keys) c.self.view_is c.self.invariant c.nodes.ensures.positive c.requires
+    IsAig-cut _ _ _ c.args.level (rw c.nodes.ensures.value at c.truncate.ensures.keys) c.self.view_is c.self.invariant c.nodes.ensures.positive c.requires
 
 pub returns-clause-kept : goal.returns-clause-kept
 returns-clause-kept c =
@@ -12,4 +12,4 @@ returns-clause-kept c =
 
 pub returns-clause-is_arena : goal.returns-clause-is_arena
 returns-clause-is_arena c =
-    IsArena-cut _ _ _ c.args.level (rw c.nodes.ensures.value at c.truncate.ensures.keys) c.self.view_is c.self.invariant c.nodes.ensures.positive c.requires
+    IsAig-cut _ _ _ c.args.level (rw c.nodes.ensures.value at c.truncate.ensures.keys) c.self.view_is c.self.invariant c.nodes.ensures.positive c.requires

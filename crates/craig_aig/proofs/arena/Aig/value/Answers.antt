@@ -1,11 +1,11 @@
 use Rattle.std.proofs.Common.{◌≤◌, length, ap, ◌∙◌, arith}
 use Rattle.craig_aig.specs.Values.{true_variables, edge_value_in}
-use Rattle.craig_aig.proofs.ValuesLemmas.{length-values, IsArena-front, edge_value-front}
+use Rattle.craig_aig.proofs.ValuesLemmas.{length-values, IsAig-front, edge_value-front}
 use Rattle.craig_aig.proofs.arena.Aig.value.Goals as goal
 
 pub values_of-requires : goal.values_of-requires
 values_of-requires c =
-    rw (c.place.ensures.value, c.as_slice.ensures.keys) (IsArena-front c.args.self.now c.self.inside.nodes.keys c.args.edge.place c.self.view_is c.self.invariant c.requires)
+    rw (c.place.ensures.value, c.as_slice.ensures.keys) (IsAig-front c.args.self.now c.self.inside.nodes.keys c.args.edge.place c.self.view_is c.self.invariant c.requires)
 
 pub value_in-requires : goal.value_in-requires
 value_in-requires c =

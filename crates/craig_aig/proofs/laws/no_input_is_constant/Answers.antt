@@ -1,5 +1,5 @@
 use Rattle.craig_aig.proofs.ConstantLemmas.{constant_place, constant_by_value}
-use Rattle.craig_aig.proofs.constants.no_input_is_constant.Goals as goal
+use Rattle.craig_aig.proofs.laws.no_input_is_constant.Goals as goal
 
 pub returns-clause-place : goal.returns-clause-place
 returns-clause-place c = constant_place

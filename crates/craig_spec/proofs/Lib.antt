@@ -1,0 +1,4 @@
+pub mod MemberLemmas
+pub mod LiteralLemmas
+pub mod ClauseLemmas
+pub mod ToldLemmas

@@ -1,6 +1,6 @@
 //! A sink in memory, which fails at the calls that it is given and where its room is full.
 
-ghost use Rattle.std.specs.Prelude.{◌≡◌, ◌↔◌, ◌⊎◌, ◌<◌, ◌≤◌, ◌^◌, ◌-◌, ◌++◌, [], Some, length, take, min, vec_len, vec_capacity, IsErr, IfOk, OnErr, Contains};
+ghost use Rattle.std.specs.Prelude.{◌≡◌, ◌↔◌, ◌⊎◌, ◌<◌, ◌≤◌, ◌^◌, ◌-◌, ◌++◌, [], Some, length, take, min, vec_len, vec_capacity, IsErr, IfOk, OnOk, OnErr, Contains};
 ghost use Rattle.craig_io.specs.Faults.{Rose, raised};
 ghost use Rattle.craig_io.specs.Told.{StaysTold};
 ghost use Rattle.craig_io.specs.Sink.{AppendsFirst};
@@ -80,6 +80,7 @@ impl Sink for MemSink {
         ensures progress { IfOk result (λ n. 0 < n) }
         ensures bound { IfOk result (λ n. n ≤ length bytes.now) }
         ensures appended { IfOk result (λ n. AppendsFirst n bytes.now (Some self.old.held) (Some self.new.held)) }
+        ensures quiet { OnOk result (self.new.calls.faults ≡ self.old.calls.faults) }
         ensures kept { OnErr result (StaysTold (Some self.old.held) (Some self.new.held)) }
         ensures fault { OnErr result (Rose self.old.calls.faults self.new.calls.faults) }
         ensures count { self.old.calls.faults ≤ self.new.calls.faults }

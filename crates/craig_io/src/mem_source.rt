@@ -1,6 +1,6 @@
 //! A source in memory, which fails at the calls that it is given.
 
-ghost use Rattle.std.specs.Prelude.{◌≡◌, ◌↔◌, ◌<◌, ◌≤◌, ◌^◌, Some, length, drop, min, vec_len, IsErr, IfOk, OnErr, Contains};
+ghost use Rattle.std.specs.Prelude.{◌≡◌, ◌↔◌, ◌<◌, ◌≤◌, ◌^◌, Some, length, drop, min, vec_len, IsErr, IfOk, OnOk, OnErr, Contains};
 ghost use Rattle.craig_io.specs.Faults.{Rose, raised};
 ghost use Rattle.craig_io.specs.Told.{StaysTold};
 ghost use Rattle.craig_io.specs.Source.{TakesFirst};
@@ -63,6 +63,7 @@ impl Source for MemSource {
         // As every source.
         ensures bound { IfOk result (λ n. n ≤ length into.new) }
         ensures taken { IfOk result (λ n. TakesFirst n into.new (Some self.old.left) (Some self.new.left)) }
+        ensures quiet { OnOk result (self.new.calls.faults ≡ self.old.calls.faults) }
         ensures kept { OnErr result (StaysTold (Some self.old.left) (Some self.new.left)) }
         ensures fault { OnErr result (Rose self.old.calls.faults self.new.calls.faults) }
         ensures count { self.old.calls.faults ≤ self.new.calls.faults }

@@ -14,6 +14,7 @@ pub fn put_all<W: Sink>(sink: &mut W, bytes: &[u8]) -> Result<(), Failed>
     ensures written { OnOk result (AppendsAll bytes.now (W.contents sink.old) (W.contents sink.new)) }
     ensures begun { OnErr result (AppendsPrefix bytes.now (W.contents sink.old) (W.contents sink.new)) }
     ensures fault { OnErr result (Rose (W.faults sink.old) (W.faults sink.new)) }
+    ensures quiet { OnOk result (W.faults sink.new ≡ W.faults sink.old) }
     ensures count { W.faults sink.old ≤ W.faults sink.new }
     ensures count_fits { W.faults sink.old < 2 ^ 64 → W.faults sink.new < 2 ^ 64 }
     ensures empty { length bytes.now ≡ 0 → IsOk result }

@@ -1,6 +1,6 @@
 //! What takes bytes.
 
-ghost use Rattle.std.specs.Prelude.{◌≡◌, ◌<◌, ◌≤◌, ◌^◌, ℕ, List, Option, length, IfOk, OnErr};
+ghost use Rattle.std.specs.Prelude.{◌≡◌, ◌<◌, ◌≤◌, ◌^◌, ℕ, List, Option, length, IfOk, OnOk, OnErr};
 ghost use Rattle.craig_io.specs.Faults.{Rose};
 ghost use Rattle.craig_io.specs.Told.{StaysTold};
 ghost use Rattle.craig_io.specs.Sink.{AppendsFirst};
@@ -28,6 +28,7 @@ pub trait Sink {
         ensures progress { IfOk result (λ n. 0 < n) }
         ensures bound { IfOk result (λ n. n ≤ length bytes.now) }
         ensures appended { IfOk result (λ n. AppendsFirst n bytes.now (contents self.old) (contents self.new)) }
+        ensures quiet { OnOk result (faults self.new ≡ faults self.old) }
         ensures kept { OnErr result (StaysTold (contents self.old) (contents self.new)) }
         ensures fault { OnErr result (Rose (faults self.old) (faults self.new)) }
         ensures count { faults self.old ≤ faults self.new }

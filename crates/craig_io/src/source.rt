@@ -1,6 +1,6 @@
 //! What gives bytes.
 
-ghost use Rattle.std.specs.Prelude.{◌≡◌, ◌<◌, ◌≤◌, ◌^◌, ℕ, List, Option, Some, length, IfSome, IfOk, OnErr};
+ghost use Rattle.std.specs.Prelude.{◌≡◌, ◌<◌, ◌≤◌, ◌^◌, ℕ, List, Option, Some, length, IfSome, IfOk, OnOk, OnErr};
 ghost use Rattle.craig_io.specs.Faults.{Rose};
 ghost use Rattle.craig_io.specs.Told.{StaysTold};
 ghost use Rattle.craig_io.specs.Source.{TakesFirst};
@@ -28,6 +28,7 @@ pub trait Source {
         requires { 0 < length into.old }
         ensures bound { IfOk result (λ n. n ≤ length into.new) }
         ensures taken { IfOk result (λ n. TakesFirst n into.new (remaining self.old) (remaining self.new)) }
+        ensures quiet { OnOk result (faults self.new ≡ faults self.old) }
         ensures kept { OnErr result (StaysTold (remaining self.old) (remaining self.new)) }
         ensures fault { OnErr result (Rose (faults self.old) (faults self.new)) }
         ensures count { faults self.old ≤ faults self.new }

@@ -53,13 +53,13 @@ impl<W: Write> Sink for StdSink<W> {
         ensures progress { IfOk result (λ n. 0 < n) }
         ensures bound { IfOk result (λ n. n ≤ length bytes.now) }
         ensures appended { IfOk result (λ n. AppendsFirst n bytes.now (W.contents self.old.inner) (W.contents self.new.inner)) }
+        ensures quiet { OnOk result (self.new.faults ≡ self.old.faults) }
         ensures kept { OnErr result (StaysTold (W.contents self.old.inner) (W.contents self.new.inner)) }
         ensures fault { OnErr result (Rose self.old.faults self.new.faults) }
         ensures count { self.old.faults ≤ self.new.faults }
         ensures count_fits { self.new.faults < 2 ^ 64 }
 
         // This one alone.
-        ensures ok { OnOk result (self.new.faults ≡ self.old.faults) }
         ensures err { OnErr result (self.new.faults ≡ raised self.old.faults) }
     {
         match self.inner.write(bytes) {

@@ -51,13 +51,13 @@ impl<R: Read> Source for StdSource<R> {
         // As every source.
         ensures bound { IfOk result (λ n. n ≤ length into.new) }
         ensures taken { IfOk result (λ n. TakesFirst n into.new (R.remaining self.old.inner) (R.remaining self.new.inner)) }
+        ensures quiet { OnOk result (self.new.faults ≡ self.old.faults) }
         ensures kept { OnErr result (StaysTold (R.remaining self.old.inner) (R.remaining self.new.inner)) }
         ensures fault { OnErr result (Rose self.old.faults self.new.faults) }
         ensures count { self.old.faults ≤ self.new.faults }
         ensures count_fits { self.new.faults < 2 ^ 64 }
 
         // This one alone.
-        ensures ok { OnOk result (self.new.faults ≡ self.old.faults) }
         ensures err { OnErr result (self.new.faults ≡ raised self.old.faults) }
     {
         match self.inner.read(into) {

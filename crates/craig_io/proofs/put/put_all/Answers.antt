@@ -10,6 +10,7 @@ loop-rest-preserved g c =
     let n = c.in_ok-taken.taken in
     record {
       written = HasWritten-more _ rest _ n _ _ _ c.loop-rest.invariant.written c.in_ok-taken.ensures.bound c.in_ok-taken.ensures.appended (take_rest rest n);
+      quiet = grind (arith, common_steps);
       count = omega arith;
       count_fits = λ h. c.write.ensures.count_fits;
       unused = grind (arith, common_steps);

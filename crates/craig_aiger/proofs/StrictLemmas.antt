@@ -24,7 +24,7 @@ use Rattle.craig_aiger.proofs.TableLemmas.{map_at}
 use Rattle.craig_aiger.proofs.CircuitLemmas.{gate_counts, gates_around, some_node}
 use Rattle.craig_aiger.proofs.FunctionLemmas.{half, kept, output_needed, to_circuit}
 use Rattle.craig_aiger.proofs.UsedLemmas.{Given, both_parts, given, member_of_map}
-use Rattle.craig_aiger.proofs.WritableLemmas.{From, from, mapped}
+use Rattle.craig_aiger.proofs.WritableLemmas.{From, from, mapped, operands_bound}
 
 -- where no two are the same, equal ones stand at one place
 one_place : {X : Type 0} (xs : List X) (d : X) (i j : ℕ) → AllPairs (λ x y. x ≢ y) xs → i < length xs → j < length xs → get_or xs i d ≡ get_or xs j d → i ≡ j
@@ -180,6 +180,7 @@ module _ (nodes : List Node) (names : List ℕ) (outputs : List (OutName × Edge
     before : length (filter_map gate_in (take place h.table)) ≡ j
     is : g ≡ gate_of h.numbers (left, right)
     operands : AreOperands place left right
+    below : (g.1 ≤ g.0) × (g.0 < 2 * (1 + length layout.inputs + j))
     kept_left : is_some (at h.table left.place) ≡ true
     kept_right : is_some (at h.table right.place) ≡ true
 
@@ -198,6 +199,7 @@ module _ (nodes : List Node) (names : List ℕ) (outputs : List (OutName × Edge
         before = f.before;
         is = p.2;
         operands = operands_at nodes f.place p.0.0 p.0.1 arena (h.needed.nodes_are f.place (Gate p.0.0 p.0.1) there);
+        below = operands_bound nodes names outputs layout arena h j g is;
         kept_left = k.2;
         kept_right = k.3;
       }
@@ -207,7 +209,7 @@ module _ (nodes : List Node) (names : List ℕ) (outputs : List (OutName × Edge
   circuit_gate j g is = let p = mapped to_circuit layout.gates j g is in (p.0, gate_node j p.0 p.1, p.2)
 
   module _ (distinct : IsDistinct eqb names) where
-    strict_operands : (j : ℕ) (g : circuit.Gate) → slice_get (map to_circuit layout.gates) j ≡ Some g → (1 ≤ g.right / 2) × (g.right / 2 < g.left / 2)
+    strict_operands : (j : ℕ) (g : circuit.Gate) → slice_get (map to_circuit layout.gates) j ≡ Some g → (1 ≤ g.right / 2) × (g.right / 2 < g.left / 2) × (g.left / 2 < 1 + length layout.inputs + j)
     strict_operands j g is =
         let c = circuit_gate j g is in
         let n : GateNode j c.0 = c.1 in
@@ -219,7 +221,9 @@ module _ (nodes : List Node) (names : List ℕ) (outputs : List (OutName × Edge
         omega (arith, e, n.operands.ordered) in
         let apart = ordered_variables (literal_of h.numbers n.left) (literal_of h.numbers n.right) (get_or h.numbers n.left.place 0) (get_or h.numbers n.right.place 0) (nat_lt (literal_of h.numbers n.left) (literal_of h.numbers n.right)) refl
         (half (get_or h.numbers n.left.place 0) n.left.negated) (half (get_or h.numbers n.right.place 0) n.right.negated) (some_positive n.left.place n.kept_left high) (some_positive n.right.place n.kept_right low) differ in
-        rw gate_is apart
+        let left_is : g.left ≡ c.0.0 = ap (λ (k : circuit.Gate). k.left) c.2 in
+        let parts : (1 ≤ g.right / 2) × (g.right / 2 < g.left / 2) = rw gate_is apart in
+        (parts.0, parts.1, omega (arith, left_is, n.below.1))
 
     -- the same gate is of the same node
     one_gate_node : (i j : ℕ) (p q : ℕ × ℕ) → GateNode i p → GateNode j q → to_circuit p ≡ to_circuit q → i ≡ j

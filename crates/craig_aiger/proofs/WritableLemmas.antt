@@ -93,7 +93,8 @@ module _ (nodes : List Node) (names : List ℕ) (outputs : List (OutName × Edge
       literal_below h.numbers e e.negated (1 + length layout.inputs + length (filter_map gate_in (take k h.table))) refl
       (number_below names layout.inputs h.table h.numbers e.place k n.0 h.numbering n.1 below within)
 
-  operands_bound : (j : ℕ) (g : ℕ × ℕ) → slice_get layout.gates j ≡ Some g → (g.1 ≤ g.0) × (g.0 < 2 * (1 + length layout.inputs + j))
+  -- a gate has the greater operand first, and below its own literal
+  pub operands_bound : (j : ℕ) (g : ℕ × ℕ) → slice_get layout.gates j ≡ Some g → (g.1 ≤ g.0) × (g.0 < 2 * (1 + length layout.inputs + j))
   operands_bound j g is =
       let at_map : slice_get (map (gate_of h.numbers) (filter_map gate_in h.table)) j ≡ Some g = sym (ap (λ gs. slice_get gs j) h.gates_are) ∙ is in
       let p = mapped (gate_of h.numbers) (filter_map gate_in h.table) j g at_map in

@@ -72,9 +72,13 @@ IsClosed c has = (j : ℕ) (g : Gate) → slice_get c.gates j ≡ Some g → IsT
 abbrev pub IsReached : Circuit → ℕ → Type 0
 IsReached c v = (has : ℕ → Bool) → All (λ o. IsTrue (has (o.literal / 2))) c.outputs → IsClosed c has → IsTrue (has v)
 
--- nothing is there twice or for nothing: the inputs rise, a gate has two variables, the greater first, no two gates are the same, and each input and gate is reached
+-- nothing is there twice or for nothing, and no gate stands before one that it uses
 pub record IsStrict (c : Circuit) : Type 0 where
+  -- the inputs rise
   pub rising : IsStrictlyIncreasing c.inputs
-  pub operands : (j : ℕ) (g : Gate) → slice_get c.gates j ≡ Some g → (1 ≤ g.right / 2) × (g.right / 2 < g.left / 2)
+  -- a gate has two variables, neither of them the constant, the greater first, and both below its own
+  pub operands : (j : ℕ) (g : Gate) → slice_get c.gates j ≡ Some g → (1 ≤ g.right / 2) × (g.right / 2 < g.left / 2) × (g.left / 2 < 1 + length c.inputs + j)
+  -- no two gates are the same
   pub distinct : AllPairs (λ g h. g ≢ h) c.gates
+  -- each input and gate is reached from an output
   pub reached : (v : ℕ) → 1 ≤ v → v < variable_count c → IsReached c v

@@ -1,3 +1,1 @@
-pub mod AppendLemmas
 pub mod SinkLemmas
-pub mod SourceLemmas

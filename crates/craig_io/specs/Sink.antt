@@ -1,5 +1,5 @@
 -- What a write does to the bytes held, where they are told.
-use Rattle.std.specs.Prelude.{◌≡◌, ℕ, ◌≤◌, List, ◌++◌, length, take, Option, Some}
+use Rattle.std.specs.Prelude.{◌≡◌, ℕ, ◌≤◌, List, ◌++◌, length, take, drop, Option, Some}
 
 -- where the bytes held were told, the first n of bytes stand behind them
 pub record AppendsFirst (n : ℕ) (bytes : List ℕ) (before after : Option (List ℕ)) : Type 0 where
@@ -12,3 +12,11 @@ pub record AppendsAll (bytes : List ℕ) (before after : Option (List ℕ)) : Ty
 -- where the bytes held were told, a prefix of bytes stands behind them
 pub record AppendsPrefix (bytes : List ℕ) (before after : Option (List ℕ)) : Type 0 where
   pub some : (held : List ℕ) → before ≡ Some held → (n : ℕ) × (n ≤ length bytes) × (after ≡ Some (held ++ take n bytes))
+
+-- the bytes but for the rest are written
+pub record HasWritten (bytes rest : List ℕ) (before after : Option (List ℕ)) : Type 0 where
+  -- how many are written
+  pub done : ℕ
+  pub within : done ≤ length bytes
+  pub left : rest ≡ drop done bytes
+  pub appended : AppendsFirst done bytes before after

@@ -108,24 +108,7 @@ mod tests {
     use super::MemSink;
     use crate::failure::Failed;
     use crate::put::put_all;
-    use crate::sink::Sink;
     use std::test::Fail;
-
-    #[test]
-    fn writes_take_pieces_fail_as_listed_and_where_the_room_is_full(
-        rt: HostRuntime,
-    ) -> Result<(), Fail> {
-        let fails = [1].to_vec(rt.alloc())?;
-        let mut sink = MemSink::new(rt.alloc(), 5, 3, fails)?;
-        for want in [Err(Failed), Ok(3), Ok(2), Err(Failed)] {
-            assert_eq!(rt; sink.write(b"abcd"), want);
-        }
-        assert_eq!(rt; sink.bytes(), b"abcab".as_slice());
-        let calls = &sink.calls;
-        let met = calls.faults;
-        assert_eq!(rt; met, 2);
-        Ok(())
-    }
 
     // The bytes written are `abc`.
     #[test]
@@ -147,15 +130,6 @@ mod tests {
             let met = calls.faults;
             assert_eq!(rt; met, faults);
         }
-        Ok(())
-    }
-
-    #[test]
-    fn put_all_of_no_bytes_makes_no_call(rt: HostRuntime) -> Result<(), Fail> {
-        let fails = [1].to_vec(rt.alloc())?;
-        let mut sink = MemSink::new(rt.alloc(), 0, 1, fails)?;
-        assert_eq!(rt; put_all(&mut sink, b""), Ok(()));
-        assert_eq!(rt; put_all(&mut sink, b"a"), Err(Failed));
         Ok(())
     }
 }

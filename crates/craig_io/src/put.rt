@@ -1,8 +1,9 @@
 //! Writes a whole text to a sink.
 
-ghost use Rattle.std.specs.Prelude.{◌≡◌, ◌<◌, ◌≤◌, ◌^◌, length, IsOk, OnOk, OnErr};
+ghost use Rattle.std.specs.Prelude.{◌≡◌, ◌<◌, ◌≤◌, ◌^◌, length, IsOk, IfOk, OnOk, OnErr};
 ghost use Rattle.craig_io.specs.Faults.{Rose};
-ghost use Rattle.craig_io.specs.Sink.{AppendsAll, AppendsPrefix};
+ghost use Rattle.craig_io.specs.Sink.{AppendsAll, AppendsPrefix, HasWritten};
+ghost use Rattle.craig_io.specs.Told.{StaysTold};
 
 use crate::failure::Failed;
 use crate::sink::Sink;
@@ -22,8 +23,23 @@ pub fn put_all<W: Sink>(sink: &mut W, bytes: &[u8]) -> Result<(), Failed>
 {
     let mut rest = bytes;
     while !rest.is_empty() {
-        let taken = sink.write(rest)?;
-        rest = &rest[taken..];
+        rest = put_some(sink, rest)?;
     }
     Ok(())
+}
+
+/// Writes some of the bytes, from the first on, and gives those that are left to write. After `Failed` the
+/// bytes held are as before.
+fn put_some<'a, W: Sink>(sink: &mut W, bytes: &'a [u8]) -> Result<&'a [u8], Failed>
+    requires { 0 < length bytes.now }
+    ensures written { IfOk result (λ rest. HasWritten bytes.now rest.now (W.contents sink.old) (W.contents sink.new)) }
+    ensures fewer { IfOk result (λ rest. length rest.now < length bytes.now) }
+    ensures quiet { OnOk result (W.faults sink.new ≡ W.faults sink.old) }
+    ensures kept { OnErr result (StaysTold (W.contents sink.old) (W.contents sink.new)) }
+    ensures fault { OnErr result (Rose (W.faults sink.old) (W.faults sink.new)) }
+    ensures count { W.faults sink.old ≤ W.faults sink.new }
+    ensures count_fits { W.faults sink.new < 2 ^ 64 }
+{
+    let taken = sink.write(bytes)?;
+    Ok(&bytes[taken..])
 }

@@ -1,6 +1,6 @@
 //! What gives bytes.
 
-ghost use Rattle.std.specs.Prelude.{◌≡◌, ◌<◌, ◌≤◌, ◌^◌, ℕ, List, Option, Some, length, IfSome, IfOk, OnOk, OnErr};
+ghost use Rattle.std.specs.Prelude.{◌≡◌, ◌<◌, ◌≤◌, ◌^◌, ℕ, List, Option, length, IfOk, OnOk, OnErr};
 ghost use Rattle.craig_io.specs.Faults.{Rose};
 ghost use Rattle.craig_io.specs.Told.{StaysTold};
 ghost use Rattle.craig_io.specs.Source.{TakesFirst};
@@ -33,37 +33,4 @@ pub trait Source {
         ensures fault { OnErr result (Rose (faults self.old) (faults self.new)) }
         ensures count { faults self.old ≤ faults self.new }
         ensures count_fits { faults self.new < 2 ^ 64 };
-}
-
-#[cfg(test)]
-mod tests {
-    use super::Source;
-    use crate::mem_source::MemSource;
-    use std::alloc::Global;
-    use std::test::Fail;
-
-    // The clauses of a read are enough for a caller that reads to the end.
-    fn read_whole<R: Source>(alloc: Global, source: &mut R) -> Option<Vec<u8>>
-        ensures { IfSome result (λ all. (bytes : List ℕ) → R.remaining source.old ≡ Some bytes → all.items ≡ bytes) }
-    {
-        let mut all = Vec::new(alloc);
-        let mut piece = [0; 4];
-        for _ in 0..u64::MAX {
-            match source.read(&mut piece) {
-                Ok(0) => return Some(all),
-                Ok(given) => all.extend_from_slice(&piece[..given]).ok()?,
-                Err(_) => return None,
-            }
-        }
-        None
-    }
-
-    #[test]
-    fn a_caller_that_reads_to_the_end_has_all_bytes(rt: HostRuntime) -> Result<(), Fail> {
-        let bytes = b"abcdefgh".to_vec(rt.alloc())?;
-        let mut source = MemSource::new(bytes, 3, Vec::new(rt.alloc()));
-        let all = read_whole(rt.alloc(), &mut source).ok_or("a read failed")?;
-        assert_eq!(rt; all.as_slice(), b"abcdefgh".as_slice());
-        Ok(())
-    }
 }

@@ -76,25 +76,44 @@ impl<W: Write> Sink for StdSink<W> {
 mod tests {
     use super::StdSink;
     use crate::failure::Failed;
-    use crate::put::put_all;
     use crate::sink::Sink;
-    use std::test::Fail;
+    use std::io::{ErrorKind, Write};
 
-    #[test]
-    fn a_vector_holds_what_was_written(rt: HostRuntime) -> Result<(), Fail> {
-        let mut held = Vec::new(rt.alloc());
-        let mut sink = StdSink::new(&mut held);
-        assert_eq!(rt; put_all(&mut sink, b"abc"), Ok(()));
-        assert_eq!(rt; held.as_slice(), b"abc".as_slice());
-        Ok(())
+    /// A writer that counts its calls. It takes a byte at each but the second, which fails, and nothing at the
+    /// fourth.
+    #[derive(Drop)]
+    struct FailsOnce {
+        // how often it was written to
+        calls: u64,
+    }
+
+    impl Write for FailsOnce {
+        fn write(&mut self, buf: &[u8]) -> std::io::Result<usize> {
+            self.calls = self.calls.saturating_add(1);
+            match self.calls {
+                2 => Err(ErrorKind::Interrupted.into()),
+                4 => Ok(0),
+                _ => Ok(buf.len().min(1)),
+            }
+        }
+
+        fn flush(&mut self) -> std::io::Result<()> {
+            Ok(())
+        }
     }
 
     #[test]
-    fn a_write_that_takes_nothing_is_a_fault(rt: HostRuntime) {
-        let mut room = [0; 2];
-        let mut sink = StdSink::new(room.as_mut_slice());
-        assert_eq!(rt; sink.write(b"abc"), Ok(2));
-        assert_eq!(rt; sink.write(b"c"), Err(Failed));
-        assert_eq!(rt; sink.faults, 1);
+    fn each_write_asks_the_writer_once_and_one_that_takes_nothing_is_a_fault(rt: HostRuntime) {
+        let mut sink = StdSink::new(FailsOnce { calls: 0 });
+        for (want, calls, faults) in [
+            (Ok(1), 1, 0),
+            (Err(Failed), 2, 1),
+            (Ok(1), 3, 1),
+            (Err(Failed), 4, 2),
+        ] {
+            assert_eq!(rt; sink.write(b"abc"), want);
+            assert_eq!(rt; sink.inner.calls, calls);
+            assert_eq!(rt; sink.faults, faults);
+        }
     }
 }

@@ -77,39 +77,31 @@ mod tests {
     use crate::source::Source;
     use std::io::{ErrorKind, Read};
 
-    #[test]
-    fn a_slice_is_read_to_its_end(rt: HostRuntime) {
-        let mut source = StdSource::new(b"abc".as_slice());
-        let mut into = [0; 2];
-        for want in [b"ab".as_slice(), b"c", b""] {
-            assert_eq!(rt; source.read(&mut into), Ok(want.len()));
-            assert!(rt; into.starts_with(want));
-        }
-    }
-
-    // Gives a byte `a` at its first read, and fails at each later one.
+    /// A reader that counts its calls. It gives a byte `a` at each but the second, which fails.
     #[derive(Drop)]
-    struct Breaking {
-        broken: bool,
+    struct FailsOnce {
+        // how often it was read from
+        calls: u64,
     }
 
-    impl Read for Breaking {
+    impl Read for FailsOnce {
         fn read(&mut self, buf: &mut [u8]) -> std::io::Result<usize> {
-            if self.broken || buf.is_empty() {
-                return Err(ErrorKind::BrokenPipe.into());
+            self.calls = self.calls.saturating_add(1);
+            if self.calls == 2 || buf.is_empty() {
+                return Err(ErrorKind::Interrupted.into());
             }
-            self.broken = true;
             buf[0] = b'a';
             Ok(1)
         }
     }
 
     #[test]
-    fn a_reader_that_fails_in_mid_stream_is_a_fault(rt: HostRuntime) {
-        let mut source = StdSource::new(Breaking { broken: false });
+    fn each_read_asks_the_reader_once_and_an_error_is_a_fault(rt: HostRuntime) {
+        let mut source = StdSource::new(FailsOnce { calls: 0 });
         let mut into = [0; 2];
-        for (want, faults) in [(Ok(1), 0), (Err(Failed), 1), (Err(Failed), 2)] {
+        for (want, calls, faults) in [(Ok(1), 1, 0), (Err(Failed), 2, 1), (Ok(1), 3, 1)] {
             assert_eq!(rt; source.read(&mut into), want);
+            assert_eq!(rt; source.inner.calls, calls);
             assert_eq!(rt; source.faults, faults);
         }
     }

@@ -1,5 +1,5 @@
 use Rattle.std.proofs.Common.{◌≡◌, ◌<◌, ◌≤◌, ◌^◌, length}
-use Rattle.craig_io.proofs.SinkLemmas.{HasWritten}
+use Rattle.craig_io.specs.Sink.{HasWritten}
 use Rattle.craig_io.proofs.put.put_all.Given as goal
 
 abbrev pub invariant-loop-rest : goal.invariant-loop-rest

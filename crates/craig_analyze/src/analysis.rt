@@ -53,6 +53,7 @@ impl Analysis {
         requires level { 0 < held.now.level }
         requires conflict { IsFalsified held.now conflict.0 }
         ensures derived { IfOk result (IsDerived held.now.arena) }
+        ensures begins { IfOk result (λ l. l.first ≡ conflict) }
         ensures asserting { IfOk result (IsAssertingClause held.now) }
     {
         craig_watch::laws::conflicts_above_the_root();
@@ -90,6 +91,7 @@ pub fn learn(alloc: Global, held: &Held, conflict: ClauseId) -> Result<Learnt, A
     requires level { 0 < held.now.level }
     requires conflict { IsFalsified held.now conflict.0 }
     ensures derived { IfOk result (IsDerived held.now.arena) }
+    ensures begins { IfOk result (λ l. l.first ≡ conflict) }
     ensures asserting { IfOk result (IsAssertingClause held.now) }
 {
     Analysis::new(alloc).learn_with(held, conflict)

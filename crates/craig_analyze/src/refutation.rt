@@ -19,6 +19,7 @@ impl Analysis {
         requires level { held.now.level ≡ 0 }
         requires conflict { IsFalsified held.now conflict.0 }
         ensures derived { IfOk result (IsDerived held.now.arena) }
+        ensures begins { IfOk result (λ l. l.first ≡ conflict) }
         ensures empty { IfOk result (λ l. l.lits ≡ []) }
         ensures back { IfOk result (λ l. l.back ≡ 0) }
         ensures glue { IfOk result (λ l. l.glue ≡ 0) }
@@ -42,6 +43,7 @@ pub fn refute(alloc: Global, held: &Held, conflict: ClauseId) -> Result<Learnt, 
     requires level { held.now.level ≡ 0 }
     requires conflict { IsFalsified held.now conflict.0 }
     ensures derived { IfOk result (IsDerived held.now.arena) }
+    ensures begins { IfOk result (λ l. l.first ≡ conflict) }
     ensures empty { IfOk result (λ l. l.lits ≡ []) }
     ensures back { IfOk result (λ l. l.back ≡ 0) }
     ensures glue { IfOk result (λ l. l.glue ≡ 0) }

@@ -50,18 +50,20 @@ impl Order {
     pub fn grow(&mut self, vars: u32) -> Result<(), AllocError>
         requires { vars ≤ 2147483648 }
         ensures grown { OnOk result (IsGrown self.old self.new vars) }
-        ensures dead { OnErr result (self.new ≡ record self.old { dead = true }) }
+        ensures alive { OnOk result (self.new.dead ≡ false) }
+        ensures dead { OnErr result (self.new.dead ≡ true) }
         ensures refused { self.old.dead ≡ true → IsErr result }
+        ensures unchanged { OnErr result (self.new ≡ record self.old { dead = true }) }
     {
         if self.dead {
             return Err(AllocError);
         }
-        if vars as usize <= self.given_back.len() {
-            return Ok(());
+        self.dead = true;
+        if vars as usize > self.given_back.len() {
+            self.given_back.resize(vars as usize, true)?;
         }
-        let grown = self.given_back.resize(vars as usize, true);
-        self.dead = grown.is_err();
-        grown
+        self.dead = false;
+        Ok(())
     }
 
     /// Raises the score of a known variable. No variable has a score yet.

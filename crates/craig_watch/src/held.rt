@@ -1,5 +1,5 @@
 //! Held clauses and their trail.
-ghost use Rattle.std.specs.Prelude.{◌≡◌, ◌≢◌, ◌+◌, ◌<◌, ◌≤◌, [], ◌∷◌, ◌++◌, true, Some, None, All, IfOk, OnOk, OnErr, IsErr, length, map, max, nat_lt, slice_get};
+ghost use Rattle.std.specs.Prelude.{◌≡◌, ◌≢◌, ◌+◌, ◌<◌, ◌≤◌, [], ◌∷◌, ◌++◌, false, true, Some, None, All, IfOk, OnOk, OnErr, IsErr, length, map, max, nat_lt, slice_get};
 ghost use Rattle.std.specs.Option.{option_map};
 ghost use Rattle.craig_base.specs.Arena.{IsLive, ChangesClause, ChangesOnly, changed, clause_at, with_clause, with_id, without};
 ghost use Rattle.craig_base.specs.Clauses.{IsNormal};
@@ -63,19 +63,21 @@ impl Held {
     pub fn grow(&mut self, vars: u32) -> Result<(), AllocError>
         requires { vars ≤ 2147483648 }
         ensures grown { OnOk result (self.new ≡ record self.old { vars = max self.old.vars vars }) }
-        ensures dead { OnErr result (self.new ≡ record self.old { dead = true }) }
+        ensures alive { OnOk result (self.new.dead ≡ false) }
+        ensures dead { OnErr result (self.new.dead ≡ true) }
         ensures refused { self.old.dead ≡ true → IsErr result }
+        ensures unchanged { OnErr result (self.new ≡ record self.old { dead = true }) }
         ensures consistent { IsConsistent self.new }
     {
         if self.dead {
             return Err(AllocError);
         }
-        if vars <= self.vars() {
-            return Ok(());
+        self.dead = true;
+        if vars > self.vars() {
+            self.make_known(vars as usize)?;
         }
-        let grown = self.make_known(vars as usize);
-        self.dead = grown.is_err();
-        grown
+        self.dead = false;
+        Ok(())
     }
 
     // Makes the variables below the number known. After an error all is as before.
@@ -97,16 +99,19 @@ impl Held {
         ensures numbered { OnOk result (self.new ≡ record self.old { arena = with_id self.old.arena }) }
         ensures next { IfOk result (λ id. id.0 ≡ self.old.arena.given) }
         ensures fresh { IfOk result (λ id. clause_at self.old.arena id.0 ≡ None) }
-        ensures dead { OnErr result (self.new ≡ record self.old { dead = true }) }
+        ensures alive { OnOk result (self.new.dead ≡ false) }
+        ensures dead { OnErr result (self.new.dead ≡ true) }
         ensures refused { self.old.dead ≡ true → IsErr result }
+        ensures unchanged { OnErr result (self.new ≡ record self.old { dead = true }) }
         ensures consistent { IsConsistent self.new }
     {
         if self.dead {
             return Err(AllocError);
         }
-        let id = self.arena.number();
-        self.dead = id.is_err();
-        id
+        self.dead = true;
+        let id = self.arena.number()?;
+        self.dead = false;
+        Ok(id)
     }
 
     /// Holds a clause under the next id. The literals stay in their order.
@@ -118,16 +123,19 @@ impl Held {
         ensures next { IfOk result (λ id. id.0 ≡ self.old.arena.given) }
         ensures fresh { IfOk result (λ id. clause_at self.old.arena id.0 ≡ None) }
         ensures only { IfOk result (λ id. ChangesOnly self.old.arena self.new.arena id.0 (Some (record { literals = lits.now; flags = flags }))) }
-        ensures dead { OnErr result (self.new ≡ record self.old { dead = true }) }
+        ensures alive { OnOk result (self.new.dead ≡ false) }
+        ensures dead { OnErr result (self.new.dead ≡ true) }
         ensures refused { self.old.dead ≡ true → IsErr result }
+        ensures unchanged { OnErr result (self.new ≡ record self.old { dead = true }) }
         ensures consistent { IsConsistent self.new }
     {
         if self.dead {
             return Err(AllocError);
         }
-        let id = self.arena.add(lits, flags);
-        self.dead = id.is_err();
-        id
+        self.dead = true;
+        let id = self.arena.add(lits, flags)?;
+        self.dead = false;
+        Ok(id)
     }
 
     /// Lets a held clause go, which is the reason of no literal on the trail.
@@ -197,7 +205,7 @@ impl Held {
         ensures consistent { IsConsistent self.new }
     {
         let Some(lit) = self.trail.pop() else {
-            return;
+            unreachable!();
         };
         self.entries.pop();
         self.places[lit.var().0 as usize] = None;
@@ -239,7 +247,7 @@ impl Held {
     {
         match self.places[var.0 as usize] {
             Some(place) => place,
-            None => 0,
+            None => unreachable!(),
         }
     }
 

@@ -10,7 +10,6 @@ ghost use Rattle.craig_watch.specs.declared.value.Value.TheVariants.{True, Free}
 ghost use Rattle.craig_watch.specs.Trail.{AreDistinct, AreLevels, IsFalse, Trail, assignment_of, decisions, entry_of, level_at, part_up_to, value_under};
 ghost use Rattle.craig_watch.specs.Held.{HeldView, IsComplete, IsConsistent, MayBeHeld, held_clause};
 
-
 /// Levels rise along a trail and none is above the present one; a decision has a level above 0, so what has level 0
 /// has a reason; and there are no more levels and literals than known variables.
 pub fn levels_rise()

@@ -1,5 +1,5 @@
 //! Unit propagation by a plain walk over all held clauses until nothing changes.
-ghost use Rattle.std.specs.Prelude.{◌≡◌, ◌≢◌, ◌<◌, true, None, IfOk, IfSome, OnOk, OnErr, IsErr};
+ghost use Rattle.std.specs.Prelude.{◌≡◌, ◌≢◌, ◌<◌, false, true, None, IfOk, IfSome, OnOk, OnErr, IsErr};
 ghost use Rattle.craig_base.specs.Arena.{IsLive, literals_at};
 ghost use Rattle.craig_watch.specs.Held.{IsComplete, IsConsistent, IsFalsified, IsLengthened, IsRefused};
 ghost use Rattle.craig_watch.specs.Standing.{HasLooked, IsSettledAt, StandsSo};
@@ -20,8 +20,10 @@ impl Held {
         ensures lengthened { OnOk result (IsLengthened self.old self.new) }
         ensures complete { IfOk result (λ conflict. conflict ≡ None → IsComplete self.new.arena self.new.trail) }
         ensures falsified { IfOk result (λ conflict. IfSome conflict (λ id. IsFalsified self.new id.0)) }
-        ensures dead { OnErr result (IsRefused self.old self.new) }
+        ensures alive { OnOk result (self.new.dead ≡ false) }
+        ensures dead { OnErr result (self.new.dead ≡ true) }
         ensures refused { self.old.dead ≡ true → IsErr result }
+        ensures same_clauses { OnErr result (IsRefused self.old self.new) }
         ensures consistent { IsConsistent self.new }
     {
         if self.is_dead() {

@@ -10,26 +10,21 @@ index-requires c =
     let known : c.args.var.0 < length h.places.items = assigned-known h.entries.items (length h.places.items) c.args.var.0 c.self.invariant.1.known (rw (← c.self.view_is) at c.requires) in
     omega (arith, h.places.ok.0)
 
-pub returns-in-Some-clause-within : goal.returns-in-Some-clause-within
-returns-in-Some-clause-within c =
+pub returns-clause-within : goal.returns-clause-within
+returns-clause-within c =
     let h = c.self.inside in
     let known : c.args.var.0 < length h.places.items = assigned-known h.entries.items (length h.places.items) c.args.var.0 c.self.invariant.1.known (rw (← c.self.view_is) at c.requires) in
     rw (← c.self.view_is) (place-within h.places.items h.entries.items c.args.var.0 c.in-Some.place c.index.result.now c.self.invariant.0.table known (sym c.index.ensures ∙ c.in-Some.is))
 
-pub returns-in-Some-clause-entry : goal.returns-in-Some-clause-entry
-returns-in-Some-clause-entry c =
+pub returns-clause-entry : goal.returns-clause-entry
+returns-clause-entry c =
     let h = c.self.inside in
     let known : c.args.var.0 < length h.places.items = assigned-known h.entries.items (length h.places.items) c.args.var.0 c.self.invariant.1.known (rw (← c.self.view_is) at c.requires) in
     let there = sym c.index.ensures ∙ c.in-Some.is in
     let within : c.in-Some.place < length h.entries.items = place-within h.places.items h.entries.items c.args.var.0 c.in-Some.place c.index.result.now c.self.invariant.0.table known there in
     rw (← c.self.view_is) (slice_get-get_or h.entries.items c.in-Some.place any_entry within ∙ sym (entry_of-place h.places.items h.entries.items c.args.var.0 c.in-Some.place c.index.result.now any_entry c.self.invariant.0.table c.self.invariant.1.distinct known there))
 
-pub returns-in-None-clause-within : goal.returns-in-None-clause-within
-returns-in-None-clause-within c =
+pub unreachable-requires : goal.unreachable-requires
+unreachable-requires c =
     let h = c.self.inside in
-    absurd (place-assigned h.places.items h.entries.items c.args.var.0 c.index.result.now c.self.invariant.0.table (rw (← c.self.view_is) at c.requires) (sym c.index.ensures ∙ c.in-None.is))
-
-pub returns-in-None-clause-entry : goal.returns-in-None-clause-entry
-returns-in-None-clause-entry c =
-    let h = c.self.inside in
-    absurd (place-assigned h.places.items h.entries.items c.args.var.0 c.index.result.now c.self.invariant.0.table (rw (← c.self.view_is) at c.requires) (sym c.index.ensures ∙ c.in-None.is))
+    place-assigned h.places.items h.entries.items c.args.var.0 c.index.result.now c.self.invariant.0.table (rw (← c.self.view_is) at c.requires) (sym c.index.ensures ∙ c.in-None.is)

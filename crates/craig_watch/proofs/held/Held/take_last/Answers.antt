@@ -3,8 +3,8 @@ use Rattle.craig_watch.proofs.TrailLemmas.{any_entry}
 use Rattle.craig_watch.proofs.StoredLemmas.{Stored-popped}
 use Rattle.craig_watch.proofs.held.Held.take_last.Goals as goal
 
-pub invariant_of-self-2 : goal.invariant_of-self-2
-invariant_of-self-2 c =
+pub invariant_of-self : goal.invariant_of-self
+invariant_of-self c =
     let h = c.self.inside in
     let some : 0 < length h.entries.items = rw (← c.self.view_is) at c.requires in
     let is = c.pop-2.ensures.value any_entry (omega (arith, h.entries.ok.0)) in

@@ -9,7 +9,7 @@ use Rattle.craig_spec.specs.Cut.{PartClause, clauses_within}
 use Rattle.craig_top.specs.Named.{bare_clauses, named_part_clause}
 use Rattle.craig_top.specs.Naming.{named_literal, named_clause}
 use Rattle.craig_top.specs.Values.{IsOver, AreOver}
-use Rattle.craig_top.proofs.MemberLemmas.{Contains-image, list_any-more}
+use Rattle.craig_spec.proofs.MemberLemmas.{Contains-image, list_any-more}
 use Rattle.craig_top.proofs.OverLemmas.{AreOver-contains}
 
 -- the dense assignment gives each dense variable the value of its name

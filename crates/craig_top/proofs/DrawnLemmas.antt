@@ -21,7 +21,7 @@ use Rattle.craig_top.specs.RefutationReply.{output_literals}
 use Rattle.craig_top.specs.Sides.{AreSidesOf, parted}
 use Rattle.craig_top.specs.Values.{AreOver}
 use Rattle.craig_top.proofs.DenseLemmas.{Agrees}
-use Rattle.craig_top.proofs.MemberLemmas.{Contains-front}
+use Rattle.craig_spec.proofs.MemberLemmas.{Contains-front}
 use Rattle.craig_top.proofs.NamedSidesLemmas.{occurs_within-named}
 use Rattle.craig_top.proofs.NamedValuesLemmas.{partial_interpolant-named}
 use Rattle.craig_top.proofs.OriginalLemmas.{IsOriginalOf-pair}

@@ -12,29 +12,29 @@ use Rattle.craig_spec.specs.Literal.{Literal, Clause}
 use Rattle.craig_base.specs.declared.script_part.Part.{Part}
 use Rattle.craig_base.specs.Names.{with_name}
 use Rattle.craig_top.specs.GivenState.{script_literal}
-use Rattle.craig_top.specs.Growth.{Grows}
+use Rattle.craig_top.specs.Growth.{NamesGrow}
 use Rattle.craig_top.specs.Values.{IsOver, AreOver}
 use Rattle.craig_top.specs.Naming.{named_literal, named_clause, written}
 
-pub Grows-refl : (names : List ℕ) → Grows names names
-Grows-refl names = record { longer = omega arith; kept = λ i h. refl }
+pub NamesGrow-refl : (names : List ℕ) → NamesGrow names names
+NamesGrow-refl names = record { longer = omega arith; kept = λ i h. refl }
 
-pub Grows-trans : (a b c : List ℕ) → Grows a b → Grows b c → Grows a c
-Grows-trans a b c g h = record {
+pub NamesGrow-trans : (a b c : List ℕ) → NamesGrow a b → NamesGrow b c → NamesGrow a c
+NamesGrow-trans a b c g h = record {
   longer = omega (arith, g.longer, h.longer);
   kept = λ i l. h.kept i (omega (arith, g.longer)) ∙ g.kept i l;
 }
 
-Grows-append : (names : List ℕ) (name : ℕ) → Grows names (names ++ name ∷ [])
-Grows-append names name = record {
+NamesGrow-append : (names : List ℕ) (name : ℕ) → NamesGrow names (names ++ name ∷ [])
+NamesGrow-append names name = record {
   longer = omega (arith, length-append names (name ∷ []));
   kept = λ i l. get_or_append_left names (name ∷ []) 0 i l;
 }
 
-pub Grows-with_name : (names : List ℕ) (name : ℕ) → Grows names (with_name names name)
-Grows-with_name names name = elim (cases_Bool (list_any (nat_eq name) names)) [
-  | inl t ↦ rw t (Grows-refl names)
-  | inr f ↦ rw f (Grows-append names name)
+pub NamesGrow-with_name : (names : List ℕ) (name : ℕ) → NamesGrow names (with_name names name)
+NamesGrow-with_name names name = elim (cases_Bool (list_any (nat_eq name) names)) [
+  | inl t ↦ rw t (NamesGrow-refl names)
+  | inr f ↦ rw f (NamesGrow-append names name)
 ]
 
 pub IsOver-more : (n m : ℕ) (c : Clause) → n ≤ m → IsOver n c → IsOver m c
@@ -50,14 +50,14 @@ AreOver-more n m (c ∷ cs) h over =
     let parts : (IsOver n c) × (AreOver n cs) = and_parts _ _ over in
     and_from _ _ (IsOver-more n m c h parts.0) (AreOver-more n m cs h parts.1)
 
-pub named_clause-grows : (old new : List ℕ) (c : Clause) → Grows old new → IsOver (length old) c → named_clause new c ≡ named_clause old c
+pub named_clause-grows : (old new : List ℕ) (c : Clause) → NamesGrow old new → IsOver (length old) c → named_clause new c ≡ named_clause old c
 named_clause-grows old new [] g over = refl
 named_clause-grows old new (l ∷ c) g over =
     let parts : (nat_lt l.var (length old) ≡ true) × (IsOver (length old) c) = and_parts _ _ over in
     let here : get_or new l.var 0 ≡ get_or old l.var 0 = g.kept l.var (ltb-true l.var (length old) parts.0) in
     rw (here, named_clause-grows old new c g parts.1) refl
 
-pub written-grows : (old new : List ℕ) (accepted : List (Part × Clause)) → Grows old new → AreOver (length old) (map (λ a. a.1) accepted) → written new accepted ≡ written old accepted
+pub written-grows : (old new : List ℕ) (accepted : List (Part × Clause)) → NamesGrow old new → AreOver (length old) (map (λ a. a.1) accepted) → written new accepted ≡ written old accepted
 written-grows old new [] g over = refl
 written-grows old new (a ∷ others) g over =
     let parts : (IsOver (length old) a.1) × (AreOver (length old) (map (λ b. b.1) others)) = and_parts _ _ over in
@@ -87,7 +87,7 @@ is_within-at limit (z ∷ zs) (suc i) d all h =
     is_within-at limit zs i d parts.1 (omega arith)
 
 -- one literal more of a clause, whose variable may be new
-pub named_clause-push : (old new : List ℕ) (c pushed : Clause) (l : Literal) (zs : List ℤ) (i : ℕ) (d : ℤ) → Grows old new → IsOver (length old) c
+pub named_clause-push : (old new : List ℕ) (c pushed : Clause) (l : Literal) (zs : List ℤ) (i : ℕ) (d : ℤ) → NamesGrow old new → IsOver (length old) c
     → named_clause old c ≡ map script_literal (take i zs) → i < length zs → pushed ≡ c ++ l ∷ [] → named_literal new l ≡ script_literal (get_or zs i d)
     → named_clause new pushed ≡ map script_literal (take (i + 1) zs)
 named_clause-push old new c pushed l zs i d g over so h p e =

@@ -3,7 +3,6 @@ pub mod NamingLemmas
 pub mod BelowLemmas
 pub mod ModelLemmas
 pub mod ResultLemmas
-pub mod MemberLemmas
 pub mod DenseLemmas
 pub mod NotedLemmas
 pub mod OutputLemmas

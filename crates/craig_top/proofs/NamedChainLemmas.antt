@@ -9,7 +9,7 @@ use Rattle.craig_spec.specs.Chain.{ChainStep, SameLiterals, IsResolvent, IsChain
 use Rattle.craig_top.specs.Named.{named_chain_step, AreDifferent}
 use Rattle.craig_top.specs.Naming.{named_literal, named_clause}
 use Rattle.craig_top.specs.Values.{IsOver}
-use Rattle.craig_top.proofs.MemberLemmas.{Contains-image, Contains-from_image}
+use Rattle.craig_spec.proofs.MemberLemmas.{Contains-image, Contains-from_image}
 use Rattle.craig_top.proofs.OverLemmas.{IsOver-contains, IsResolvent-over}
 
 -- different entries are of different variables

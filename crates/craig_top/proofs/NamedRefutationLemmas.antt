@@ -13,7 +13,7 @@ use Rattle.craig_top.specs.Naming.{named_literal, named_clause, written}
 use Rattle.craig_top.specs.Sides.{parted}
 use Rattle.craig_top.specs.Values.{IsOver, AreOver}
 use Rattle.craig_top.proofs.OverLemmas.{IsOver-contains, IsRefutationOf-over}
-use Rattle.craig_top.proofs.MemberLemmas.{Contains-image, Contains-from_image}
+use Rattle.craig_spec.proofs.MemberLemmas.{Contains-image, Contains-from_image}
 use Rattle.craig_top.proofs.NamedChainLemmas.{SameLiterals-named, same_from_named, Contains-from_named}
 use Rattle.craig_top.proofs.NamedStepsLemmas.{AreRising-named, EachStands-named}
 

@@ -9,7 +9,7 @@ use Rattle.craig_spec.specs.PartialInterpolant.{Labelling, is_a, is_b, leaf_a_va
 use Rattle.craig_top.specs.Named.{named_chain_step, named_origin, named_step, ArePivotsOver, IsOverOrigin, IsOverStep, AreStepsOver}
 use Rattle.craig_top.specs.Naming.{named_literal, named_clause}
 use Rattle.craig_top.specs.Values.{IsOver}
-use Rattle.craig_top.proofs.MemberLemmas.{Contains-front, Contains-later}
+use Rattle.craig_spec.proofs.MemberLemmas.{Contains-front, Contains-later}
 
 -- a literal that may be left out
 list_any-kept : (p : Literal → Bool) (b : Bool) (l : Literal) (c : Clause) → list_any p (cond b (l ∷ c) c) ≡ ((b && p l) || list_any p c)

@@ -14,7 +14,7 @@ use Rattle.craig_solver.specs.Told.{AreAccepted}
 use Rattle.craig_top.specs.Named.{bare_clauses}
 use Rattle.craig_top.specs.Sides.{AreSidesOf, parted}
 use Rattle.craig_top.specs.Values.{AreOver}
-use Rattle.craig_top.proofs.MemberLemmas.{Contains-image, list_any-member, list_any-more}
+use Rattle.craig_spec.proofs.MemberLemmas.{Contains-image, list_any-member, list_any-more}
 use Rattle.craig_top.proofs.NamingLemmas.{occurs-below}
 use Rattle.craig_top.proofs.OverLemmas.{AreOver-within}
 use Rattle.craig_top.proofs.SidesLemmas.{occurs-within}

@@ -5,7 +5,7 @@ use Rattle.craig_spec.specs.Chain.{Original, ToldStep, SameLiterals}
 use Rattle.craig_spec.specs.DrawnFromOneRefutation.{IsOriginalOf}
 use Rattle.craig_base.specs.declared.script_part.Part.{Part}
 use Rattle.craig_top.specs.Sides.{parted}
-use Rattle.craig_top.proofs.MemberLemmas.{Contains-image}
+use Rattle.craig_spec.proofs.MemberLemmas.{Contains-image}
 
 -- the literals of an accepted pair, told with its part
 pub IsOriginalOf-pair : (accepted : List (Part × Clause)) (pair : Part × Clause) (s : ToldStep) → Contains accepted pair → s.origin ≡ Original pair.0.0 → SameLiterals pair.1 s.literals

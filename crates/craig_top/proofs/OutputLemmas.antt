@@ -19,7 +19,7 @@ use Rattle.craig_aiger.specs.declared.out_name.OutName.{OutName}
 use Rattle.craig_itp.specs.Interpolants.{AreInterpolants}
 use Rattle.craig_top.specs.CutLayout.{IsCutLayout, cut_outputs_from}
 use Rattle.craig_top.specs.RefutationReply.{output_literals, cut_names}
-use Rattle.craig_top.proofs.MemberLemmas.{Contains-from_slice_get, slice_get-from_map, slice_get-to_map, slice_get-within, slice_get-below}
+use Rattle.craig_spec.proofs.MemberLemmas.{Contains-from_slice_get, slice_get-from_map, slice_get-to_map, slice_get-within, slice_get-below}
 
 -- ---- outputs of edges
 

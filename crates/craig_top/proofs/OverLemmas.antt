@@ -9,7 +9,7 @@ use Rattle.craig_spec.specs.Cut.{PartClause, clauses_within}
 use Rattle.craig_spec.specs.DrawnFromOneRefutation.{IsOriginalOf, IsRefutationOf}
 use Rattle.craig_top.specs.Named.{bare_clauses, ArePivotsOver, IsOverOrigin, AreClausesOver, AreStepsOver}
 use Rattle.craig_top.specs.Values.{IsOver, AreOver}
-use Rattle.craig_top.proofs.MemberLemmas.{Contains-front, Contains-later}
+use Rattle.craig_spec.proofs.MemberLemmas.{Contains-front, Contains-later}
 
 -- a clause over n variables is so literal by literal
 pub IsOver-contains : (n : ℕ) (c : Clause) (l : Literal) → IsOver n c → Contains c l → l.var < n

@@ -24,11 +24,11 @@ use Rattle.craig_top.specs.Naming.{written}
 use Rattle.craig_top.specs.RefutationReply.{IsCircuitText, cut_names, output_literals}
 use Rattle.craig_top.specs.ReplyTexts.{unsatisfiable_text}
 use Rattle.craig_top.specs.Sides.{AreSidesOf, parted}
-use Rattle.craig_top.specs.Stored.{IsStored, stored_state}
+use Rattle.craig_top.specs.Stored.{HaveNames, stored_state}
 use Rattle.craig_top.specs.Values.{AreOver}
 use Rattle.craig_top.proofs.DenseLemmas.{Agrees}
 use Rattle.craig_top.proofs.DrawnLemmas.{IsRefutingPart, IsRefutationOf-part, root_values}
-use Rattle.craig_top.proofs.MemberLemmas.{All-alone}
+use Rattle.craig_spec.proofs.MemberLemmas.{All-alone}
 use Rattle.craig_top.proofs.NamedRefutationLemmas.{IsRefutationOf-named, parted-named, parted-bare}
 use Rattle.craig_top.proofs.NotedLemmas.{AreOriginalsOf-accepted}
 use Rattle.craig_top.proofs.OutputLemmas.{circuit_names, inputs-used}
@@ -57,10 +57,10 @@ is_circuit_text names sides steps root layout laid strict c reads same = record 
 }
 
 -- the accepted clauses are over the names
-pub over_parted : (names : List ℕ) (accepted : List (Part × Clause)) → IsStored names accepted → AreOver (length names) (bare_clauses (parted accepted))
+pub over_parted : (names : List ℕ) (accepted : List (Part × Clause)) → HaveNames names accepted → AreOver (length names) (bare_clauses (parted accepted))
 over_parted names accepted stored = subst (λ cs. AreOver (length names) cs) (sym (parted-bare accepted)) stored
 
-module _ (names : List ℕ) (differ : AreDifferent names) (accepted : List (Part × Clause)) (stored : IsStored names accepted) (sides : SidesView) (are : AreSidesOf (parted accepted) sides)
+module _ (names : List ℕ) (differ : AreDifferent names) (accepted : List (Part × Clause)) (stored : HaveNames names accepted) (sides : SidesView) (are : AreSidesOf (parted accepted) sides)
     (t : Told) (told : IsToldOf accepted t) (root : ℕ) (part : List ToldStep) (refuting : IsRefutingPart t root part) (values : HasCutValues sides t.steps root)
     (agrees : (s : Assignment) → Agrees names (dense_assignment names s) s) (layout : Layout) (laid : IsCutLayout names sides t.steps root layout) where
   -- the clauses of the state, with no units

@@ -14,7 +14,7 @@ use Rattle.craig_top.specs.GivenState.{State, start, after}
 use Rattle.craig_top.specs.Reply.{Reply}
 use Rattle.craig_top.specs.Transcript.{Transcript, BeginsTranscript, BreaksOff}
 use Rattle.craig_top.specs.Emptied.{emptied}
-use Rattle.craig_top.specs.Ending.{whole, Promise, IsComplete}
+use Rattle.craig_top.specs.Ending.{whole, Promise, EndsDone}
 use Rattle.craig_top.specs.declared.status.Status.{Status}
 use Rattle.craig_top.specs.Puts.{Puts, Stopped}
 use Rattle.craig_top.specs.StopStatus.{status_of}
@@ -245,15 +245,15 @@ StepLeaves-done settings bound lb hb l h session lines taken piece (suc n) none 
 
 -- ---- completeness
 
-pub IsComplete-from : (settings : Settings) (bound : ℕ) (s : Status) (lb la hb ha : Option (List ℕ)) (read_failed write_failed : Type 0) → Promise settings bound s lb la hb ha
-    → (s ≡ status.ReadFault → read_failed) → (s ≡ status.WriteFault → write_failed) → (s ≡ status.Usage → ⊥) → IsComplete bound s lb read_failed write_failed
-IsComplete-from settings bound status.Done lb la hb ha rf wf p r w u = λ all h short no_read no_write. inl refl
-IsComplete-from settings bound status.Usage lb la hb ha rf wf p r w u = λ all h short no_read no_write. absurd (u refl)
-IsComplete-from settings bound status.ReadFault lb la hb ha rf wf p r w u = λ all h short no_read no_write. absurd (no_read (r refl))
-IsComplete-from settings bound status.WriteFault lb la hb ha rf wf p r w u = λ all h short no_read no_write. absurd (no_write (w refl))
-IsComplete-from settings bound status.TooLong lb la hb ha rf wf p r w u = λ all h short no_read no_write.
+pub EndsDone-from : (settings : Settings) (bound : ℕ) (s : Status) (lb la hb ha : Option (List ℕ)) (read_failed write_failed : Type 0) → Promise settings bound s lb la hb ha
+    → (s ≡ status.ReadFault → read_failed) → (s ≡ status.WriteFault → write_failed) → (s ≡ status.Usage → ⊥) → EndsDone bound s lb read_failed write_failed
+EndsDone-from settings bound status.Done lb la hb ha rf wf p r w u = λ all h short no_read no_write. inl refl
+EndsDone-from settings bound status.Usage lb la hb ha rf wf p r w u = λ all h short no_read no_write. absurd (u refl)
+EndsDone-from settings bound status.ReadFault lb la hb ha rf wf p r w u = λ all h short no_read no_write. absurd (no_read (r refl))
+EndsDone-from settings bound status.WriteFault lb la hb ha rf wf p r w u = λ all h short no_read no_write. absurd (no_write (w refl))
+EndsDone-from settings bound status.TooLong lb la hb ha rf wf p r w u = λ all h short no_read no_write.
     let kept = p all h in
     let same : length all ≡ length kept.0 + length kept.1 = ap length kept.2 ∙ length-append kept.0 kept.1 in
     let reached : length kept.0 ≡ bound = kept.4 in
     absurd (omega arith)
-IsComplete-from settings bound status.NoMemory lb la hb ha rf wf p r w u = λ all h short no_read no_write. inr refl
+EndsDone-from settings bound status.NoMemory lb la hb ha rf wf p r w u = λ all h short no_read no_write. inr refl

@@ -13,7 +13,7 @@ use Rattle.craig_base.specs.declared.script_part.Part.{Part}
 use Rattle.craig_label.specs.Sides.{Range, SidesView, IsSides, IsNoted, range_of, widened, is_in_a, is_in_b, occurs_in_a, occurs_in_b}
 use Rattle.craig_top.specs.Sides.{AreSidesOf, NotesClause, parted}
 use Rattle.craig_top.proofs.BelowLemmas.{same_answer}
-use Rattle.craig_top.proofs.MemberLemmas.{Contains-one}
+use Rattle.craig_spec.proofs.MemberLemmas.{Contains-one}
 
 -- ---- a variable is noted
 

@@ -5,25 +5,25 @@ use Rattle.craig_spec.specs.Literal.{Clause}
 use Rattle.craig_spec.specs.Cut.{PartClause}
 use Rattle.craig_base.specs.declared.script_part.Part.{Part}
 use Rattle.craig_label.specs.Sides.{SidesView, IsSides}
-use Rattle.craig_top.specs.GivenState.{script_literal, clauses_of}
-use Rattle.craig_top.specs.Growth.{Grows}
+use Rattle.craig_top.specs.GivenState.{script_literal, given_clauses}
+use Rattle.craig_top.specs.Growth.{NamesGrow}
 use Rattle.craig_top.specs.Values.{IsOver}
 use Rattle.craig_top.specs.Naming.{named_clause, written}
 use Rattle.craig_top.specs.Sides.{NotesClause, parted}
-use Rattle.craig_top.specs.Stored.{stored_state, IsKept, IsStored}
+use Rattle.craig_top.specs.Stored.{stored_state, IsKept, HaveNames}
 use Rattle.craig_top.proofs.GrowthLemmas.{AreOver-more, AreOver-push, written-grows}
 use Rattle.craig_top.proofs.SidesLemmas.{AreSidesOf-push, parted-push}
 
-pub IsStored-grows : (old new : List ℕ) (accepted : List (Part × Clause)) → Grows old new → IsStored old accepted → IsStored new accepted
-IsStored-grows old new accepted g stored = AreOver-more _ _ (map (λ a. a.1) accepted) g.longer stored
+pub HaveNames-grows : (old new : List ℕ) (accepted : List (Part × Clause)) → NamesGrow old new → HaveNames old accepted → HaveNames new accepted
+HaveNames-grows old new accepted g stored = AreOver-more _ _ (map (λ a. a.1) accepted) g.longer stored
 
-pub IsStored-push : (old new : List ℕ) (accepted pushed : List (Part × Clause)) (part : Part) (c : Clause) → Grows old new → IsStored old accepted → IsOver (length new) c
-    → pushed ≡ accepted ++ (part, c) ∷ [] → IsStored new pushed
-IsStored-push old new accepted pushed part c g stored over e =
-    rw (e, map-append (λ (a : Part × Clause). a.1) accepted ((part, c) ∷ [])) (AreOver-push (length new) (map (λ a. a.1) accepted) c (IsStored-grows old new accepted g stored) over)
+pub HaveNames-push : (old new : List ℕ) (accepted pushed : List (Part × Clause)) (part : Part) (c : Clause) → NamesGrow old new → HaveNames old accepted → IsOver (length new) c
+    → pushed ≡ accepted ++ (part, c) ∷ [] → HaveNames new pushed
+HaveNames-push old new accepted pushed part c g stored over e =
+    rw (e, map-append (λ (a : Part × Clause). a.1) accepted ((part, c) ∷ [])) (AreOver-push (length new) (map (λ a. a.1) accepted) c (HaveNames-grows old new accepted g stored) over)
 
 -- the state with one clause more
-pub stored_state-push : (parts : ℕ) (old new : List ℕ) (accepted pushed : List (Part × Clause)) (part : Part) (c : Clause) (zs : List ℤ) → Grows old new → IsStored old accepted
+pub stored_state-push : (parts : ℕ) (old new : List ℕ) (accepted pushed : List (Part × Clause)) (part : Part) (c : Clause) (zs : List ℤ) → NamesGrow old new → HaveNames old accepted
     → pushed ≡ accepted ++ (part, c) ∷ [] → named_clause new c ≡ map script_literal zs
     → stored_state parts new pushed ≡ record { parts = parts; accepted = written old accepted ++ record { part = part.0; clause = map script_literal zs } ∷ [] }
 stored_state-push parts old new accepted pushed part c zs g stored e so =
@@ -31,15 +31,15 @@ stored_state-push parts old new accepted pushed part c zs g stored e so =
     rw (e, map-append as_written accepted ((part, c) ∷ []), written-grows old new accepted g stored, so) refl
 
 -- the accepted clauses of the state are the dense ones under their names
-pub clauses_of-stored : (parts : ℕ) (names : List ℕ) (accepted : List (Part × Clause)) → clauses_of (stored_state parts names accepted) ≡ map (named_clause names) (map (λ a. a.1) accepted)
-clauses_of-stored parts names [] = refl
-clauses_of-stored parts names (a ∷ others) = ap (λ cs. named_clause names a.1 ∷ cs) (clauses_of-stored parts names others)
+pub given_clauses-stored : (parts : ℕ) (names : List ℕ) (accepted : List (Part × Clause)) → given_clauses (stored_state parts names accepted) ≡ map (named_clause names) (map (λ a. a.1) accepted)
+given_clauses-stored parts names [] = refl
+given_clauses-stored parts names (a ∷ others) = ap (λ cs. named_clause names a.1 ∷ cs) (given_clauses-stored parts names others)
 
 -- a session with one clause more
-pub IsKept-added : (parts : ℕ) (old new : List ℕ) (before after : SidesView) (accepted pushed : List (Part × Clause)) (part : Part) (c : Clause) (vars known : ℕ) → IsKept parts old before accepted vars → Grows old new → IsOver (length new) c
+pub IsKept-added : (parts : ℕ) (old new : List ℕ) (before after : SidesView) (accepted pushed : List (Part × Clause)) (part : Part) (c : Clause) (vars known : ℕ) → IsKept parts old before accepted vars → NamesGrow old new → IsOver (length new) c
     → NotesClause before c part.0 after → IsSides after → 1 ≤ part.0 → part.0 ≤ parts → pushed ≡ accepted ++ (part, c) ∷ [] → known ≡ max vars (length new) → IsKept parts new after pushed known
 IsKept-added parts old new before after accepted pushed part c vars known kept grows over noted sides low high push is = record {
-  stored = IsStored-push old new accepted pushed part c grows kept.stored over push;
+  stored = HaveNames-push old new accepted pushed part c grows kept.stored over push;
   sides_are = AreSidesOf-push (parted accepted) (parted pushed) before after (record { part = part.0; clause = c }) kept.sides_are noted sides low (rw kept.parts_are high) (ap parted push ∙ parted-push accepted part c);
   parts_are = noted.parts ∙ kept.parts_are;
   known = (let more = grows.longer in let low2 = kept.known in omega arith);

@@ -41,6 +41,6 @@ Promise settings bound status left_before left_after held_before held_after =
 
 -- a script that is told, and is shorter than the bound, is answered to its end where no read and no write failed, or
 -- memory ran out
-abbrev pub IsComplete : (bound : ℕ) → Status → (left_before : Option (List ℕ)) → (read_failed write_failed : Type 0) → Type 0
-IsComplete bound status left_before read_failed write_failed =
+abbrev pub EndsDone : (bound : ℕ) → Status → (left_before : Option (List ℕ)) → (read_failed write_failed : Type 0) → Type 0
+EndsDone bound status left_before read_failed write_failed =
     (all : List ℕ) → left_before ≡ Some all → length all < bound → ¬ read_failed → ¬ write_failed → (status ≡ Done) ⊎ (status ≡ NoMemory)

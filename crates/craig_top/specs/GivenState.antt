@@ -24,8 +24,8 @@ script_literal (pos n) = record { var = n; negated = false }
 script_literal (negsuc n) = record { var = n + 1; negated = true }
 
 -- the accepted clauses without their parts
-abbrev pub clauses_of : State → List Clause
-clauses_of state = map (λ (a : PartClause). a.clause) state.accepted
+abbrev pub given_clauses : State → List Clause
+given_clauses state = map (λ (a : PartClause). a.clause) state.accepted
 
 -- whether a clause is accepted
 abbrev pub any_clause : List PartClause → Bool

@@ -2,6 +2,6 @@
 use Rattle.std.specs.Prelude.{◌≡◌, ℕ, ◌<◌, ◌≤◌, List, length, slice_index}
 
 -- every name keeps its dense number
-pub record Grows (old new : List ℕ) : Type 0 where
+pub record NamesGrow (old new : List ℕ) : Type 0 where
   pub longer : length old ≤ length new
   pub kept : (i : ℕ) → i < length old → slice_index new i ≡ slice_index old i

@@ -31,14 +31,14 @@ abbrev pub IsRefutationBy : (names : List ℕ) → (kept : List ToldStep) → (l
 IsRefutationBy names kept last state assumptions text = (reply : IsRefutationReply state assumptions text) × IsOfLastRoot names kept last reply.drawn.steps reply.drawn.root
 
 -- the reply gives a model, or so refutes
-abbrev pub IsVerdictBy : (names : List ℕ) → (kept : List ToldStep) → (last : Option ℕ) → State → List (ℕ × ℤ) → List ℕ → Type 0
-IsVerdictBy names kept last state pairs text = GivesModel state pairs text ⊎ IsRefutationBy names kept last state (assumptions_of pairs) text
+abbrev pub IsSolveReplyBy : (names : List ℕ) → (kept : List ToldStep) → (last : Option ℕ) → State → List (ℕ × ℤ) → List ℕ → Type 0
+IsSolveReplyBy names kept last state pairs text = GivesModel state pairs text ⊎ IsRefutationBy names kept last state (assumptions_of pairs) text
 
 -- the reply to a solve is such a verdict
 abbrev pub IsByLastRoot : SessionView → State → Command → List ℕ → Type 0
 IsByLastRoot view state Nothing text = Unit {0}
 IsByLastRoot view state (Add part lits) text = Unit {0}
-IsByLastRoot view state (Solve pairs) text = IsVerdictBy view.names view.steps view.root state pairs text
+IsByLastRoot view state (Solve pairs) text = IsSolveReplyBy view.names view.steps view.root state pairs text
 
 -- so is the reply to a line that is a solve
 abbrev pub ReadingIsByLastRoot : SessionView → State → Result Command Refusal → List ℕ → Type 0

@@ -6,7 +6,7 @@ use Rattle.craig_script.specs.declared.line.Line.{Line}
 use Rattle.craig_script.specs.declared.command.Command.{Command}
 use Rattle.craig_script.specs.declared.command.Command.TheVariants.{Nothing, Add, Solve}
 use Rattle.craig_script.specs.declared.refusal.Refusal.{Refusal}
-use Rattle.craig_top.specs.GivenState.{State, clauses_of, script_literal, reading}
+use Rattle.craig_top.specs.GivenState.{State, given_clauses, script_literal, reading}
 use Rattle.craig_top.specs.ModelReply.{IsModelReply}
 use Rattle.craig_top.specs.RefutationReply.{IsRefutationReply}
 use Rattle.craig_top.specs.ReplyTexts.{satisfiable_text, refusal_text, ok_text}
@@ -21,17 +21,17 @@ assumptions_of pairs = map (λ pair. record { part = pair.0; literal = script_li
 
 -- the text gives a model of the clauses and the assumptions
 abbrev pub GivesModel : State → List (ℕ × ℤ) → List ℕ → Type 0
-GivesModel state pairs text = (literals : List Literal) × IsModelReply (assuming (clauses_of state) pairs) literals × (text ≡ satisfiable_text literals)
+GivesModel state pairs text = (literals : List Literal) × IsModelReply (assuming (given_clauses state) pairs) literals × (text ≡ satisfiable_text literals)
 
 -- the text gives a model, or refutes the clauses and the assumptions
-abbrev pub IsVerdict : State → List (ℕ × ℤ) → List ℕ → Type 0
-IsVerdict state pairs text = GivesModel state pairs text ⊎ IsRefutationReply state (assumptions_of pairs) text
+abbrev pub IsSolveReply : State → List (ℕ × ℤ) → List ℕ → Type 0
+IsSolveReply state pairs text = GivesModel state pairs text ⊎ IsRefutationReply state (assumptions_of pairs) text
 
 -- the text is allowed as the reply to a command
 abbrev pub RepliesTo : State → Command → List ℕ → Type 0
 RepliesTo state Nothing text = text ≡ []
 RepliesTo state (Add part lits) text = text ≡ ok_text
-RepliesTo state (Solve pairs) text = IsVerdict state pairs text
+RepliesTo state (Solve pairs) text = IsSolveReply state pairs text
 
 -- a refused line is answered by its number
 abbrev pub RepliesToReading : State → Result Command Refusal → List ℕ → Type 0

@@ -13,12 +13,12 @@ abbrev pub stored_state : ℕ → List ℕ → List (Part × Clause) → State
 stored_state parts names accepted = record { parts = parts; accepted = written names accepted }
 
 -- every variable of the dense clauses has a name
-abbrev pub IsStored : List ℕ → List (Part × Clause) → Type 0
-IsStored names accepted = AreOver (length names) (map (λ a. a.1) accepted)
+abbrev pub HaveNames : List ℕ → List (Part × Clause) → Type 0
+HaveNames names accepted = AreOver (length names) (map (λ a. a.1) accepted)
 
 -- what holds of the parts, the names, the sides, the dense clauses and the number of known variables of a session, unless a call wanted memory in vain
 pub record IsKept (parts : ℕ) (names : List ℕ) (sides : SidesView) (accepted : List (Part × Clause)) (vars : ℕ) : Type 0 where
-  pub stored : IsStored names accepted
+  pub stored : HaveNames names accepted
   pub sides_are : AreSidesOf (parted accepted) sides
   pub parts_are : sides.parts ≡ parts
   pub known : vars ≤ length names

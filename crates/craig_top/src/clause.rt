@@ -5,7 +5,7 @@ ghost use Rattle.std.specs.List.{list_all};
 ghost use Rattle.std.specs.Int.RustNames.{unsigned_abs};
 ghost use Rattle.craig_script.specs.Reading.{is_within, variable_limit};
 ghost use Rattle.craig_top.specs.GivenState.{script_literal};
-ghost use Rattle.craig_top.specs.Growth.{Grows};
+ghost use Rattle.craig_top.specs.Growth.{NamesGrow};
 ghost use Rattle.craig_top.specs.Naming.{named_clause, named_literal};
 ghost use Rattle.craig_top.specs.Values.{IsOver};
 
@@ -16,7 +16,7 @@ use std::alloc::{AllocError, Global};
 /// have no name yet are added to them, also those before an error.
 pub fn dense_clause(alloc: Global, names: &mut Names, literals: &[i64]) -> Result<Lits, AllocError>
     requires { IsTrue (list_all (is_within variable_limit) (map unsigned_abs literals.now)) }
-    ensures grows { Grows names.old names.new }
+    ensures grows { NamesGrow names.old names.new }
     ensures clause { IfOk result (λ clause. named_clause names.new clause ≡ map script_literal literals.now) }
     ensures over { IfOk result (λ clause. IsOver (length names.new) clause) }
 {
@@ -31,7 +31,7 @@ pub fn dense_clause(alloc: Global, names: &mut Names, literals: &[i64]) -> Resul
 fn dense_literal(names: &mut Names, literal: i64) -> Result<Lit, AllocError>
     requires low { 1 ≤ unsigned_abs literal }
     requires high { unsigned_abs literal ≤ variable_limit }
-    ensures grows { Grows names.old names.new }
+    ensures grows { NamesGrow names.old names.new }
     ensures literal { IfOk result (λ l. named_literal names.new l ≡ script_literal literal) }
     ensures over { IfOk result (λ l. l.var < length names.new) }
 {

@@ -13,7 +13,7 @@ ghost use Rattle.craig_solver.specs.Told.{IsToldOf};
 ghost use Rattle.craig_top.specs.CutLayout.{IsCutLayout, cut_outputs_from};
 ghost use Rattle.craig_top.specs.LastRefutation.{IsRefutationBy};
 ghost use Rattle.craig_top.specs.Sides.{AreSidesOf, parted};
-ghost use Rattle.craig_top.specs.Stored.{IsStored, stored_state};
+ghost use Rattle.craig_top.specs.Stored.{HaveNames, stored_state};
 
 use crate::reply::append_unsatisfiable;
 use craig_aig::{Aig, Edge};
@@ -37,7 +37,7 @@ pub fn append_refutation(
     out: &mut Vec<u8>,
 ) -> Result<(), AllocError>
     requires names { AreNames names.now }
-    requires stored { IsStored names.now clauses.now }
+    requires stored { HaveNames names.now clauses.now }
     requires sides { AreSidesOf (parted clauses.now) sides.now }
     requires told { IsToldOf clauses.now store.now.told }
     requires root { IsUnforgotten store.now.told.steps root.0 }

@@ -11,7 +11,7 @@ ghost use Rattle.craig_top.specs.StartingSettings.{starting_settings};
 ghost use Rattle.craig_top.specs.GivenState.{start, after};
 ghost use Rattle.craig_top.specs.Transcript.{Transcript};
 ghost use Rattle.craig_top.specs.Emptied.{emptied};
-ghost use Rattle.craig_top.specs.Ending.{Promise, IsComplete};
+ghost use Rattle.craig_top.specs.Ending.{Promise, EndsDone};
 ghost use Rattle.craig_top.specs.StopStatus.{status_of};
 ghost use Rattle.craig_top.specs.declared.settings.Settings.{Settings};
 
@@ -210,7 +210,7 @@ pub fn run_script<R: Source, W: Sink>(
     ensures read_fault { result ≡ Status.ReadFault → Rose (R.faults source.old) (R.faults source.new) }
     ensures write_fault { result ≡ Status.WriteFault → Rose (W.faults sink.old) (W.faults sink.new) }
     ensures no_usage { result ≢ Status.Usage }
-    ensures complete { IsComplete bound result (R.remaining source.old) (Rose (R.faults source.old) (R.faults source.new)) (Rose (W.faults sink.old) (W.faults sink.new)) }
+    ensures complete { EndsDone bound result (R.remaining source.old) (Rose (R.faults source.old) (R.faults source.new)) (Rose (W.faults sink.old) (W.faults sink.new)) }
     ensures read_count { R.faults source.old ≤ R.faults source.new }
     ensures write_count { W.faults sink.old ≤ W.faults sink.new }
 {

@@ -52,7 +52,7 @@ impl Model for Session {
 impl Session {
     ghost use Rattle.craig_top.specs.StartingSettings.{starting_settings};
     ghost use Rattle.craig_top.specs.GivenState.{start, reading, next, obeyed};
-    ghost use Rattle.craig_top.specs.LastRefutation.{IsByLastRoot, IsVerdictBy, ReadingIsByLastRoot};
+    ghost use Rattle.craig_top.specs.LastRefutation.{IsByLastRoot, IsSolveReplyBy, ReadingIsByLastRoot};
     ghost use Rattle.craig_top.specs.Reply.{Reply, RepliesTo};
     ghost use Rattle.craig_top.specs.Unassuming.{IsUnassuming};
 
@@ -163,7 +163,7 @@ impl Session {
     /// Solves the accepted clauses, and appends the verdict.
     fn solve(&mut self, out: &mut Vec<u8>) -> Result<(), AllocError>
         requires { self.old.dead ≡ false }
-        ensures verdict { OnOk result ((text : List ℕ) × IsVerdictBy self.new.names self.new.steps self.new.root self.old.state [] text × (out.new.items ≡ out.old.items ++ text)) }
+        ensures verdict { OnOk result ((text : List ℕ) × IsSolveReplyBy self.new.names self.new.steps self.new.root self.old.state [] text × (out.new.items ≡ out.old.items ++ text)) }
         ensures state { self.new.state ≡ self.old.state }
     {
         self.dead = true;

@@ -3,7 +3,7 @@
 ghost use Rattle.std.specs.Prelude.{◌≡◌, ◌<◌, ◌≤◌, ◌↔◌, length};
 ghost use Rattle.craig_io.specs.Faults.{Rose};
 ghost use Rattle.craig_top.specs.StartingSettings.{starting_settings};
-ghost use Rattle.craig_top.specs.Ending.{Promise, IsComplete};
+ghost use Rattle.craig_top.specs.Ending.{Promise, EndsDone};
 
 use crate::run::run_script;
 use crate::settings::Settings;
@@ -32,7 +32,7 @@ pub fn craig_top<R: Source, W: Sink>(
     ensures untouched { result ≡ Status.Usage → (source.new ≡ source.old) × (sink.new ≡ sink.old) }
     ensures read_fault { result ≡ Status.ReadFault → Rose (R.faults source.old) (R.faults source.new) }
     ensures write_fault { result ≡ Status.WriteFault → Rose (W.faults sink.old) (W.faults sink.new) }
-    ensures complete { length words.now ≡ 0 → IsComplete SCRIPT_BOUND result (R.remaining source.old) (Rose (R.faults source.old) (R.faults source.new)) (Rose (W.faults sink.old) (W.faults sink.new)) }
+    ensures complete { length words.now ≡ 0 → EndsDone SCRIPT_BOUND result (R.remaining source.old) (Rose (R.faults source.old) (R.faults source.new)) (Rose (W.faults sink.old) (W.faults sink.new)) }
     ensures read_count { R.faults source.old ≤ R.faults source.new }
     ensures write_count { W.faults sink.old ≤ W.faults sink.new }
 {

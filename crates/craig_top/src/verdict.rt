@@ -6,12 +6,12 @@ ghost use Rattle.craig_spec.specs.Literal.{Literal};
 ghost use Rattle.craig_base.specs.Names.{AreNames};
 ghost use Rattle.craig_solver.specs.Answer.{IsAnswer, root_of_answer};
 ghost use Rattle.craig_solver.specs.Told.{IsToldOf, TellsAnswer};
-ghost use Rattle.craig_top.specs.LastRefutation.{IsVerdictBy};
+ghost use Rattle.craig_top.specs.LastRefutation.{IsSolveReplyBy};
 ghost use Rattle.craig_top.specs.ModelReply.{IsModelReply};
 ghost use Rattle.craig_top.specs.Naming.{named_clause};
 ghost use Rattle.craig_top.specs.ReplyTexts.{satisfiable_text};
 ghost use Rattle.craig_top.specs.Sides.{AreSidesOf, parted};
-ghost use Rattle.craig_top.specs.Stored.{IsStored, stored_state};
+ghost use Rattle.craig_top.specs.Stored.{HaveNames, stored_state};
 ghost use Rattle.craig_top.specs.Values.{AreOver, all_hold};
 
 use crate::model::{model_literals, named_variables};
@@ -35,12 +35,12 @@ pub fn append_verdict(
     out: &mut Vec<u8>,
 ) -> Result<(), AllocError>
     requires names { AreNames names.now }
-    requires stored { IsStored names.now clauses.now }
+    requires stored { HaveNames names.now clauses.now }
     requires sides { AreSidesOf (parted clauses.now) sides.now }
     requires told { IsToldOf clauses.now store.now.told }
     requires answer { IsAnswer (map (λ c. c.1) clauses.now) (length names.now) [] None answer.now }
     requires refuted { TellsAnswer clauses.now [] answer.now store.now.told }
-    ensures { OnOk result ((text : List ℕ) × IsVerdictBy names.now store.now.told.steps (root_of_answer answer.now) (stored_state sides.now.parts names.now clauses.now) [] text
+    ensures { OnOk result ((text : List ℕ) × IsSolveReplyBy names.now store.now.told.steps (root_of_answer answer.now) (stored_state sides.now.parts names.now clauses.now) [] text
         × (out.new.items ≡ out.old.items ++ text)) }
 {
     craig_base::laws::values_are_an_assignment();

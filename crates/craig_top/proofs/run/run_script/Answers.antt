@@ -1,6 +1,6 @@
 use Rattle.std.proofs.Common.{ap, inr, refl}
 use Rattle.craig_top.specs.LastRefutation.{SessionView}
-use Rattle.craig_top.proofs.RunLemmas.{Promise-unread, Progress-start, IsComplete-from}
+use Rattle.craig_top.proofs.RunLemmas.{Promise-unread, Progress-start, EndsDone-from}
 use Rattle.craig_top.proofs.run.run_script.Goals as goal
 
 pub returns-in_default-clause-promise : goal.returns-in_default-clause-promise
@@ -14,5 +14,5 @@ returns-clause-promise g c = c.read_to_end.ensures.promise c.args.settings _ _ (
 
 pub returns-clause-complete : goal.returns-clause-complete
 returns-clause-complete g c =
-    IsComplete-from c.args.settings c.args.bound _ _ _ _ _ _ _ (c.read_to_end.ensures.promise c.args.settings _ _ (Progress-start c.args.settings _ _ _ _ (ap (λ (v : SessionView). v.state) c.new.ensures) c.new-2.ensures))
+    EndsDone-from c.args.settings c.args.bound _ _ _ _ _ _ _ (c.read_to_end.ensures.promise c.args.settings _ _ (Progress-start c.args.settings _ _ _ _ (ap (λ (v : SessionView). v.state) c.new.ensures) c.new-2.ensures))
     c.read_to_end.ensures.read_fault c.read_to_end.ensures.write_fault c.read_to_end.ensures.no_usage

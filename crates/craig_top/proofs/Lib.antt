@@ -26,3 +26,4 @@ pub mod NamedStepsLemmas
 pub mod NamedValuesLemmas
 pub mod OriginalLemmas
 pub mod OverLemmas
+pub mod ListedLiteralsLemmas

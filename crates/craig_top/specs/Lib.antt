@@ -4,6 +4,7 @@ pub mod Ending
 pub mod GivenState
 pub mod Growth
 pub mod LastRefutation
+pub mod ListedLiterals
 pub mod ModelReply
 pub mod Named
 pub mod Naming

@@ -6,6 +6,10 @@ ghost use Rattle.craig_spec.specs.Cut.{PartClause};
 ghost use Rattle.craig_spec.specs.Sequence.{IsSequence};
 ghost use Rattle.craig_spec.specs.Truth.{IsUnsatisfiable};
 
+mod models;
+
+pub use models::literals_of_a_model;
+
 /// Where there is a sequence of interpolants of some clauses, no assignment makes all of them true: it would make the
 /// first interpolant both true and false.
 pub fn nothing_left()

@@ -27,3 +27,4 @@ pub mod NamedValuesLemmas
 pub mod OriginalLemmas
 pub mod OverLemmas
 pub mod ListedLiteralsLemmas
+pub mod PutRepliesLemmas

@@ -9,6 +9,7 @@ pub mod ModelReply
 pub mod Named
 pub mod Naming
 pub mod Progress
+pub mod PutReplies
 pub mod Puts
 pub mod RefutationReply
 pub mod Reply

@@ -7,8 +7,10 @@ ghost use Rattle.craig_spec.specs.Sequence.{IsSequence};
 ghost use Rattle.craig_spec.specs.Truth.{IsUnsatisfiable};
 
 mod models;
+mod runs;
 
 pub use models::literals_of_a_model;
+pub use runs::{bytes_taken, replies_of_a_transcript, replies_put};
 
 /// Where there is a sequence of interpolants of some clauses, no assignment makes all of them true: it would make the
 /// first interpolant both true and false.

@@ -1,0 +1,36 @@
+-- Which bytes were taken of a source, and which replies a text is made of.
+use Rattle.std.specs.Prelude.{◌≡◌, ℕ, ◌≤◌, List, ◌++◌, length, take, Option, Some, slice_get}
+use Rattle.std.specs.List.{concat}
+use Rattle.craig_script.specs.declared.line.Line.{Line}
+use Rattle.craig_top.specs.GivenState.{State, after}
+use Rattle.craig_top.specs.Reply.{Reply}
+
+-- all bytes are those taken and then those that are left
+abbrev pub IsTaken : (all : List ℕ) → (left : Option (List ℕ)) → (taken : List ℕ) → Type 0
+IsTaken all left taken = (rest : List ℕ) × (all ≡ taken ++ rest) × (left ≡ Some rest)
+
+-- these bytes were taken, and something holds of them
+abbrev pub Takes : (all : List ℕ) → (left : Option (List ℕ)) → (List ℕ → Type 0) → Type 0
+Takes all left P = (taken : List ℕ) × IsTaken all left taken × P taken
+
+-- behind the bytes held stands a text of which something holds
+abbrev pub IsAppended : (held : List ℕ) → (held_after : Option (List ℕ)) → (List ℕ → Type 0) → Type 0
+IsAppended held held_after P = (text : List ℕ) × (held_after ≡ Some (held ++ text)) × P text
+
+-- for each line there is a reply at its place, which is allowed in the state that the lines before it left
+abbrev pub EachIsAnswered : State → List Line → List (List ℕ) → Type 0
+EachIsAnswered state lines replies = (i : ℕ) (line : Line) → slice_get lines i ≡ Some line → (reply : List ℕ) × (slice_get replies i ≡ Some reply) × Reply (after state (take i lines)) line reply
+
+-- the text is one allowed reply for each line, one after the other
+abbrev pub AreReplies : State → List Line → List ℕ → Type 0
+AreReplies state lines text = (replies : List (List ℕ)) × (length replies ≡ length lines) × EachIsAnswered state lines replies × (text ≡ concat replies)
+
+-- the text is the replies to so many lines, the first ones
+abbrev pub AreFirstReplies : State → List Line → List ℕ → Type 0
+AreFirstReplies state lines text = (n : ℕ) × (n ≤ length lines) × AreReplies state (take n lines) text
+
+-- the text is the replies to the lines before one, and the front of an allowed reply to this one
+abbrev pub IsBrokenOff : State → List Line → List ℕ → Type 0
+IsBrokenOff state lines text =
+    (n : ℕ) × (line : Line) × (slice_get lines n ≡ Some line) × (whole : List ℕ) × AreReplies state (take n lines) whole
+    × (front : List ℕ) × (back : List ℕ) × Reply (after state (take n lines)) line (front ++ back) × (text ≡ whole ++ front)

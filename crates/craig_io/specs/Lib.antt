@@ -1,5 +1,5 @@
 pub mod Faults
-pub mod Told
+pub mod ToldBytes
 pub mod Source
 pub mod Sink
 pub mod Calls

@@ -2,7 +2,7 @@
 
 ghost use Rattle.std.specs.Prelude.{◌≡◌, ◌↔◌, ◌⊎◌, ◌<◌, ◌≤◌, ◌^◌, ◌-◌, ◌++◌, [], Some, length, take, min, vec_len, vec_capacity, IsErr, IfOk, OnOk, OnErr, Contains};
 ghost use Rattle.craig_io.specs.Faults.{Rose, raised};
-ghost use Rattle.craig_io.specs.Told.{StaysTold};
+ghost use Rattle.craig_io.specs.ToldBytes.{StaysTold};
 ghost use Rattle.craig_io.specs.Sink.{AppendsFirst};
 ghost use Rattle.craig_io.specs.Calls.{CallsMade, call_counted, fault_counted};
 ghost use Rattle.craig_io.specs.MemSink.{MemSinkView, IsMemSink};

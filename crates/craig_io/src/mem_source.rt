@@ -2,7 +2,7 @@
 
 ghost use Rattle.std.specs.Prelude.{◌≡◌, ◌↔◌, ◌<◌, ◌≤◌, ◌^◌, Some, length, drop, min, vec_len, IsErr, IfOk, OnOk, OnErr, Contains};
 ghost use Rattle.craig_io.specs.Faults.{Rose, raised};
-ghost use Rattle.craig_io.specs.Told.{StaysTold};
+ghost use Rattle.craig_io.specs.ToldBytes.{StaysTold};
 ghost use Rattle.craig_io.specs.Source.{TakesFirst};
 ghost use Rattle.craig_io.specs.Calls.{CallsMade, call_counted, fault_counted};
 ghost use Rattle.craig_io.specs.MemSource.{MemSourceView, IsMemSource};

@@ -3,7 +3,7 @@
 ghost use Rattle.std.specs.Prelude.{◌≡◌, ◌<◌, ◌≤◌, ◌^◌, length, IsOk, IfOk, OnOk, OnErr};
 ghost use Rattle.craig_io.specs.Faults.{Rose};
 ghost use Rattle.craig_io.specs.Sink.{AppendsAll, AppendsPrefix, HasWritten};
-ghost use Rattle.craig_io.specs.Told.{StaysTold};
+ghost use Rattle.craig_io.specs.ToldBytes.{StaysTold};
 
 use crate::failure::Failed;
 use crate::sink::Sink;

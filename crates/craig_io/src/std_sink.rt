@@ -2,7 +2,7 @@
 
 ghost use Rattle.std.specs.Prelude.{◌≡◌, ◌<◌, ◌≤◌, ◌^◌, length, IfOk, OnOk, OnErr};
 ghost use Rattle.craig_io.specs.Faults.{Rose, raised};
-ghost use Rattle.craig_io.specs.Told.{StaysTold};
+ghost use Rattle.craig_io.specs.ToldBytes.{StaysTold};
 ghost use Rattle.craig_io.specs.Sink.{AppendsFirst};
 ghost use Rattle.craig_io.specs.Counted.{Counted};
 

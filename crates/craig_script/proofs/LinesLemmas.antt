@@ -9,7 +9,7 @@ use Rattle.std.proofs.lemmas.List.Folds.{list_any-append}
 use Rattle.std.proofs.lemmas.Bool.Decides.{nat_tests}
 use Rattle.craig_script.specs.declared.line.Line.{Line}
 use Rattle.craig_script.specs.declared.line.Line.TheVariants.{Overlong}
-use Rattle.craig_script.specs.Lines.{Cut, cut_of, start, fed, ended, all_fed, after, is_newline, has_newline, onto_first, whole_lines, last_part, unless_empty, line_of, line_limit, kept, script_lines, IsPartial}
+use Rattle.craig_script.specs.Lines.{LinesView, unended, before_first_byte, fed, ended, all_fed, with_given, is_newline, has_newline, onto_first, whole_lines, last_part, unless_empty, line_of, line_limit, cut_back, script_lines, IsPartial}
 
 -- a front of the bytes has no newline where they have none
 pub has_newline-take : (n : ℕ) (x : List ℕ) → has_newline x ≡ false → has_newline (take n x) ≡ false
@@ -84,19 +84,19 @@ last_part-by x y false e =
 pub last_part-append_part : (x y : List ℕ) → last_part (x ++ y) ≡ last_part (last_part x ++ y)
 last_part-append_part x y = last_part-by x y (has_newline y) refl
 
--- what is kept of a line is as good as the line
+-- what a line is cut back to is as good as the line
 pub take-take_append : (n : ℕ) (x y : List ℕ) → take n (take n x ++ y) ≡ take n (x ++ y)
 take-take_append zero x y = refl
 take-take_append (suc n) [] y = refl
 take-take_append (suc n) (b ∷ bs) y = ap (λ z. b ∷ z) (take-take_append n bs y)
 
-pub kept-kept : (x y : List ℕ) → kept (kept x ++ y) ≡ kept (x ++ y)
-unfolding kept
-kept-kept x y = take-take_append (line_limit + 1) x y
+pub cut_back-cut_back : (x y : List ℕ) → cut_back (cut_back x ++ y) ≡ cut_back (x ++ y)
+unfolding cut_back
+cut_back-cut_back x y = take-take_append (line_limit + 1) x y
 
-pub has_newline-kept : (x : List ℕ) → has_newline x ≡ false → has_newline (kept x) ≡ false
-unfolding kept
-has_newline-kept x none = has_newline-take (line_limit + 1) x none
+pub has_newline-cut_back : (x : List ℕ) → has_newline x ≡ false → has_newline (cut_back x) ≡ false
+unfolding cut_back
+has_newline-cut_back x none = has_newline-take (line_limit + 1) x none
 
 line_of-long : (x : List ℕ) → line_limit < length x → line_of x ≡ Overlong
 line_of-long x h = grind (arith, nat_tests)
@@ -109,130 +109,130 @@ line_of-by n x y h (inr long) =
     line_of-long (take n x ++ y) (omega (arith, length-take_append n x y long)) ∙ sym (line_of-long (x ++ y) (omega (arith, length-append x y)))
 line_of-by n x y h (inl short) = ap (λ z. line_of (z ++ y)) (take_all n x (omega arith))
 
-pub line_of-kept : (x y : List ℕ) → line_of (kept x ++ y) ≡ line_of (x ++ y)
-unfolding kept
-line_of-kept x y = line_of-by (line_limit + 1) x y (omega arith) (cases_lt (length x) (line_limit + 1))
+pub line_of-cut_back : (x y : List ℕ) → line_of (cut_back x ++ y) ≡ line_of (x ++ y)
+unfolding cut_back
+line_of-cut_back x y = line_of-by (line_limit + 1) x y (omega arith) (cases_lt (length x) (line_limit + 1))
 
-pub map_line_of-kept : (x : List ℕ) (ls : List (List ℕ)) → map line_of (onto_first (kept x) ls) ≡ map line_of (onto_first x ls)
-map_line_of-kept x [] = refl
-map_line_of-kept x (l ∷ ls) = ap (λ z. z ∷ map line_of ls) (line_of-kept x l)
+pub map_line_of-cut_back : (x : List ℕ) (ls : List (List ℕ)) → map line_of (onto_first (cut_back x) ls) ≡ map line_of (onto_first x ls)
+map_line_of-cut_back x [] = refl
+map_line_of-cut_back x (l ∷ ls) = ap (λ z. z ∷ map line_of ls) (line_of-cut_back x l)
 
-pub ready-kept : (x y : List ℕ) → has_newline x ≡ false → map line_of (whole_lines (kept x ++ y)) ≡ map line_of (whole_lines (x ++ y))
-ready-kept x y none =
-    rw (whole_lines-onto (kept x) y (has_newline-kept x none), whole_lines-onto x y none) (map_line_of-kept x (whole_lines y))
+pub ready-cut_back : (x y : List ℕ) → has_newline x ≡ false → map line_of (whole_lines (cut_back x ++ y)) ≡ map line_of (whole_lines (x ++ y))
+ready-cut_back x y none =
+    rw (whole_lines-onto (cut_back x) y (has_newline-cut_back x none), whole_lines-onto x y none) (map_line_of-cut_back x (whole_lines y))
 
-part-by : (x y : List ℕ) → has_newline x ≡ false → (h : Bool) → has_newline y ≡ h → kept (last_part (kept x ++ y)) ≡ kept (last_part (x ++ y))
-part-by x y none true e = ap kept (last_part-at (kept x) y e ∙ sym (last_part-at x y e))
+part-by : (x y : List ℕ) → has_newline x ≡ false → (h : Bool) → has_newline y ≡ h → cut_back (last_part (cut_back x ++ y)) ≡ cut_back (last_part (x ++ y))
+part-by x y none true e = ap cut_back (last_part-at (cut_back x) y e ∙ sym (last_part-at x y e))
 part-by x y none false e =
-    rw (last_part-none (kept x ++ y) (has_newline-append (kept x) y (has_newline-kept x none) e), last_part-none (x ++ y) (has_newline-append x y none e)) (kept-kept x y)
+    rw (last_part-none (cut_back x ++ y) (has_newline-append (cut_back x) y (has_newline-cut_back x none) e), last_part-none (x ++ y) (has_newline-append x y none e)) (cut_back-cut_back x y)
 
-pub part-kept : (x y : List ℕ) → has_newline x ≡ false → kept (last_part (kept x ++ y)) ≡ kept (last_part (x ++ y))
-part-kept x y none = part-by x y none (has_newline y) refl
+pub part-cut_back : (x y : List ℕ) → has_newline x ≡ false → cut_back (last_part (cut_back x ++ y)) ≡ cut_back (last_part (x ++ y))
+part-cut_back x y none = part-by x y none (has_newline y) refl
 
-whole_ready : (x y : List ℕ) → map line_of (whole_lines x) ++ map line_of (whole_lines (kept (last_part x) ++ y)) ≡ map line_of (whole_lines (x ++ y))
+whole_ready : (x y : List ℕ) → map line_of (whole_lines x) ++ map line_of (whole_lines (cut_back (last_part x) ++ y)) ≡ map line_of (whole_lines (x ++ y))
 whole_ready x y =
-    rw (whole_lines-append x y, map-append line_of (whole_lines x) (whole_lines (last_part x ++ y)), ready-kept (last_part x) y (has_newline-last_part x)) refl
+    rw (whole_lines-append x y, map-append line_of (whole_lines x) (whole_lines (last_part x ++ y)), ready-cut_back (last_part x) y (has_newline-last_part x)) refl
 
-whole_part : (x y : List ℕ) → kept (last_part (kept (last_part x) ++ y)) ≡ kept (last_part (x ++ y))
-whole_part x y = part-kept (last_part x) y (has_newline-last_part x) ∙ sym (ap kept (last_part-append_part x y))
+whole_part : (x y : List ℕ) → cut_back (last_part (cut_back (last_part x) ++ y)) ≡ cut_back (last_part (x ++ y))
+whole_part x y = part-cut_back (last_part x) y (has_newline-last_part x) ∙ sym (ap cut_back (last_part-append_part x y))
 
 same_cut : (r r' : List Line) (p p' : List ℕ) (f : Bool) → r ≡ r' → p ≡ p' →
-    (let x : Cut = record { ready = r; partial = p; finished = f } in x) ≡ record { ready = r'; partial = p'; finished = f }
+    (let x : LinesView = record { ready = r; partial = p; finished = f } in x) ≡ record { ready = r'; partial = p'; finished = f }
 same_cut r r' p p' f e h = cc
 
 -- it makes no difference where a stream is cut into pieces
-pub fed-fed : (c : Cut) (a b : List ℕ) → fed (fed c a) b ≡ fed c (a ++ b)
+pub fed-fed : (c : LinesView) (a b : List ℕ) → fed (fed c a) b ≡ fed c (a ++ b)
 fed-fed c a b =
     same_cut _ _ _ _ false
-    (append_assoc c.ready (map line_of (whole_lines (c.partial ++ a))) (map line_of (whole_lines (kept (last_part (c.partial ++ a)) ++ b)))
+    (append_assoc c.ready (map line_of (whole_lines (c.partial ++ a))) (map line_of (whole_lines (cut_back (last_part (c.partial ++ a)) ++ b)))
     ∙ ap (λ z. c.ready ++ z) (whole_ready (c.partial ++ a) b ∙ ap (λ z. map line_of (whole_lines z)) (append_assoc c.partial a b)))
-    (whole_part (c.partial ++ a) b ∙ ap (λ z. kept (last_part z)) (append_assoc c.partial a b))
+    (whole_part (c.partial ++ a) b ∙ ap (λ z. cut_back (last_part z)) (append_assoc c.partial a b))
 
 -- lines that were given before change nothing
-pub fed-after : (given : List Line) (c : Cut) (a : List ℕ) → fed (after given c) a ≡ after given (fed c a)
-fed-after given c a = same_cut _ _ _ _ false (append_assoc given c.ready (map line_of (whole_lines (c.partial ++ a)))) refl
+pub fed-with_given : (given : List Line) (c : LinesView) (a : List ℕ) → fed (with_given given c) a ≡ with_given given (fed c a)
+fed-with_given given c a = same_cut _ _ _ _ false (append_assoc given c.ready (map line_of (whole_lines (c.partial ++ a)))) refl
 
-pub ended-after : (given : List Line) (c : Cut) → ended (after given c) ≡ after given (ended c)
-ended-after given c = same_cut _ _ _ _ true (append_assoc given c.ready (map line_of (unless_empty c.partial))) refl
+pub ended-with_given : (given : List Line) (c : LinesView) → ended (with_given given c) ≡ with_given given (ended c)
+ended-with_given given c = same_cut _ _ _ _ true (append_assoc given c.ready (map line_of (unless_empty c.partial))) refl
 
-pub fed-start : fed start [] ≡ start
-unfolding kept
-fed-start = refl
+pub fed-before_first_byte : fed before_first_byte [] ≡ before_first_byte
+unfolding cut_back
+fed-before_first_byte = refl
 
-all_fed-fed : (c : Cut) (a : List ℕ) (pieces : List (List ℕ)) → all_fed (fed c a) pieces ≡ fed c (a ++ concat pieces)
+all_fed-fed : (c : LinesView) (a : List ℕ) (pieces : List (List ℕ)) → all_fed (fed c a) pieces ≡ fed c (a ++ concat pieces)
 all_fed-fed c a [] = sym (ap (λ z. fed c z) (append-nil a))
 all_fed-fed c a (p ∷ ps) =
     ap (λ z. all_fed z ps) (fed-fed c a p) ∙ all_fed-fed c (a ++ p) ps ∙ ap (λ z. fed c z) (append_assoc a p (concat ps))
 
 -- pieces are as good as the stream that they make
-pub all_fed-start : (pieces : List (List ℕ)) → all_fed start pieces ≡ fed start (concat pieces)
-all_fed-start pieces = sym (ap (λ z. all_fed z pieces) fed-start) ∙ all_fed-fed start [] pieces
+pub all_fed-before_first_byte : (pieces : List (List ℕ)) → all_fed before_first_byte pieces ≡ fed before_first_byte (concat pieces)
+all_fed-before_first_byte pieces = sym (ap (λ z. all_fed z pieces) fed-before_first_byte) ∙ all_fed-fed before_first_byte [] pieces
 
 unless_empty-some : (x : List ℕ) → 0 < length x → unless_empty x ≡ x ∷ []
 unless_empty-some [] h = absurd (omega arith)
 unless_empty-some (b ∷ bs) h = refl
 
-pub length-kept : (x : List ℕ) → length (kept x) ≤ line_limit + 1
-unfolding kept
-length-kept x = omega (arith, length-take (line_limit + 1) x)
+pub length-cut_back : (x : List ℕ) → length (cut_back x) ≤ line_limit + 1
+unfolding cut_back
+length-cut_back x = omega (arith, length-take (line_limit + 1) x)
 
-length-kept-some : (x : List ℕ) → 0 < length x → 0 < length (kept x)
-unfolding kept
-length-kept-some x h = omega (arith, length-take (line_limit + 1) x)
+length-cut_back-some : (x : List ℕ) → 0 < length x → 0 < length (cut_back x)
+unfolding cut_back
+length-cut_back-some x h = omega (arith, length-take (line_limit + 1) x)
 
-pub line_of-kept_alone : (x : List ℕ) → line_of (kept x) ≡ line_of x
-line_of-kept_alone x = sym (ap line_of (append-nil (kept x))) ∙ line_of-kept x [] ∙ ap line_of (append-nil x)
+pub line_of-cut_back_alone : (x : List ℕ) → line_of (cut_back x) ≡ line_of x
+line_of-cut_back_alone x = sym (ap line_of (append-nil (cut_back x))) ∙ line_of-cut_back x [] ∙ ap line_of (append-nil x)
 
-kept-nil : kept [] ≡ []
-unfolding kept
-kept-nil = refl
+cut_back-nil : cut_back [] ≡ []
+unfolding cut_back
+cut_back-nil = refl
 
-last_line : (x : List ℕ) → map line_of (unless_empty (kept x)) ≡ map line_of (unless_empty x)
-last_line [] = ap (λ z. map line_of (unless_empty z)) kept-nil
+last_line : (x : List ℕ) → map line_of (unless_empty (cut_back x)) ≡ map line_of (unless_empty x)
+last_line [] = ap (λ z. map line_of (unless_empty z)) cut_back-nil
 last_line (b ∷ bs) =
-    ap (map line_of) (unless_empty-some (kept (b ∷ bs)) (length-kept-some (b ∷ bs) (omega arith))) ∙ ap (λ z. z ∷ []) (line_of-kept_alone (b ∷ bs))
+    ap (map line_of) (unless_empty-some (cut_back (b ∷ bs)) (length-cut_back-some (b ∷ bs) (omega arith))) ∙ ap (λ z. z ∷ []) (line_of-cut_back_alone (b ∷ bs))
 
 -- what a stream gives, once it has ended
-pub script_lines-ended : (s : List ℕ) → (ended (fed start s)).ready ≡ script_lines s
+pub script_lines-ended : (s : List ℕ) → (ended (fed before_first_byte s)).ready ≡ script_lines s
 script_lines-ended s =
     ap (λ z. map line_of (whole_lines s) ++ z) (last_line (last_part s)) ∙ sym (map-append line_of (whole_lines s) (unless_empty (last_part s)))
 
 -- a line that ends in the bytes is ready, and the bytes behind its newline are to come
 pub fed-line : (ready : List Line) (part front rest : List ℕ) → has_newline part ≡ false → has_newline front ≡ false →
-    fed (cut_of ready part) (front ++ 10 ∷ rest)
-    ≡ fed (cut_of (ready ++ line_of (kept (part ++ front)) ∷ []) []) rest
+    fed (unended ready part) (front ++ 10 ∷ rest)
+    ≡ fed (unended (ready ++ line_of (cut_back (part ++ front)) ∷ []) []) rest
 fed-line ready part front rest none none' =
     let none'' : has_newline (part ++ front) ≡ false = has_newline-append part front none none' in
     same_cut _ _ _ _ false
     (ap (λ z. ready ++ map line_of (whole_lines z)) (sym (append_assoc part front (10 ∷ rest)))
     ∙ ap (λ z. ready ++ map line_of z) (whole_lines-at (part ++ front) rest none'')
-    ∙ ap (λ z. ready ++ z ∷ map line_of (whole_lines rest)) (sym (line_of-kept_alone (part ++ front)))
-    ∙ sym (append_assoc ready (line_of (kept (part ++ front)) ∷ []) (map line_of (whole_lines rest))))
-    (ap (λ z. kept (last_part z)) (sym (append_assoc part front (10 ∷ rest)))
-    ∙ ap kept (last_part-at (part ++ front) (10 ∷ rest) refl))
+    ∙ ap (λ z. ready ++ z ∷ map line_of (whole_lines rest)) (sym (line_of-cut_back_alone (part ++ front)))
+    ∙ sym (append_assoc ready (line_of (cut_back (part ++ front)) ∷ []) (map line_of (whole_lines rest))))
+    (ap (λ z. cut_back (last_part z)) (sym (append_assoc part front (10 ∷ rest)))
+    ∙ ap cut_back (last_part-at (part ++ front) (10 ∷ rest) refl))
 
 -- the line that the first newline ends, and then what the bytes behind it give
 pub fed-first_line : (ready : List Line) (part front rest : List ℕ) → has_newline part ≡ false → has_newline front ≡ false →
-    fed (cut_of ready part) (front ++ 10 ∷ rest) ≡ cut_of ((ready ++ line_of (kept (part ++ front)) ∷ []) ++ (fed start rest).ready) (fed start rest).partial
+    fed (unended ready part) (front ++ 10 ∷ rest) ≡ unended ((ready ++ line_of (cut_back (part ++ front)) ∷ []) ++ (fed before_first_byte rest).ready) (fed before_first_byte rest).partial
 fed-first_line ready part front rest none none' = fed-line ready part front rest none none'
 
 -- bytes without a newline go onto the part
 pub fed-part : (ready : List Line) (part rest : List ℕ) → has_newline part ≡ false → has_newline rest ≡ false →
-    fed (cut_of ready part) rest ≡ cut_of ready (kept (part ++ rest))
+    fed (unended ready part) rest ≡ unended ready (cut_back (part ++ rest))
 fed-part ready part rest none none' =
     let none'' : has_newline (part ++ rest) ≡ false = has_newline-append part rest none none' in
     same_cut _ _ _ _ false
     (ap (λ z. ready ++ map line_of z) (whole_lines-none (part ++ rest) none'') ∙ append-nil ready)
-    (ap kept (last_part-none (part ++ rest) none''))
+    (ap cut_back (last_part-none (part ++ rest) none''))
 
--- as much of the bytes as still fits is as much as is kept
-pub kept-append : (x y : List ℕ) (room : ℕ) → length x + room ≡ line_limit + 1 → x ++ take (min room (length y)) y ≡ kept (x ++ y)
-unfolding kept
-kept-append x y room e =
+-- as much of the bytes as still fits is as much as the line is cut back to
+pub cut_back-append : (x y : List ℕ) (room : ℕ) → length x + room ≡ line_limit + 1 → x ++ take (min room (length y)) y ≡ cut_back (x ++ y)
+unfolding cut_back
+cut_back-append x y room e =
     ap (λ z. x ++ z) (take_min room y) ∙ sym (take-append-add x y room) ∙ ap (λ z. take z (x ++ y)) e
 
-pub kept-IsPartial : (x : List ℕ) → has_newline x ≡ false → IsPartial (kept x)
-kept-IsPartial x none = record { bounded = length-kept x; open_ended = has_newline-kept x none }
+pub cut_back-IsPartial : (x : List ℕ) → has_newline x ≡ false → IsPartial (cut_back x)
+cut_back-IsPartial x none = record { bounded = length-cut_back x; open_ended = has_newline-cut_back x none }
 
 has_newline-past : (x : List ℕ) → length x ≤ position_or_len is_newline x → has_newline x ≡ false
 has_newline-past [] h = refl

@@ -11,7 +11,7 @@ use Rattle.std.specs.Fmt.{decimal, signed_decimal}
 use Rattle.std.specs.List.{list_all}
 use Rattle.std.specs.Str.{all_ascii_digits}
 use Rattle.std.specs.Str.Parse.{digits_value}
-use Rattle.craig_script.specs.Numbers.{digit_limit, is_number, is_negated, number_of, unless_zero, literal_of}
+use Rattle.craig_script.specs.NumberWords.{digit_limit, is_number, is_negated, number_of, unless_zero, literal_of}
 
 -- few digits make a small number
 pub pow-small : (i n : ℕ) → i ≤ n → 10 ^ i ≤ 10 ^ n

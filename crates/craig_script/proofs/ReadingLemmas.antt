@@ -1,8 +1,8 @@
 -- Laws of the grammar, for readers that go over a line from its front.
 use Rattle.std.proofs.Common.{◌≡◌, IsTrue, false, List, [], ◌∷◌, ◌++◌, Result, Ok, Err, ℤ, ℕ, Some, refl, sym, ◌∙◌, ap, append_assoc}
 use Rattle.craig_script.specs.declared.refusal.Refusal.{Refusal}
-use Rattle.craig_script.specs.Numbers.{literal_of}
-use Rattle.craig_script.specs.Reading.{◌>>=◌, is_end, literals_of, begins_with_literal}
+use Rattle.craig_script.specs.NumberWords.{literal_of}
+use Rattle.craig_script.specs.Reading.{◌>>=◌, is_end, literals_to_end, begins_with_literal}
 
 -- what is read, behind literals that were read before
 abbrev pub with_front : List ℤ → Result (List ℤ) Refusal → Result (List ℤ) Refusal
@@ -16,14 +16,14 @@ with_front-cons : (front : List ℤ) (l : ℤ) (read : Result (List ℤ) Refusal
 with_front-cons front l (Ok ls) = ap (λ z. Ok z) (append_assoc front (l ∷ []) ls)
 with_front-cons front l (Err e) = refl
 
-literals_of-cons : (w : List ℕ) (ws : List (List ℕ)) (l : ℤ) → is_end w ≡ false → literal_of w ≡ Some l →
-    literals_of (w ∷ ws) ≡ (literals_of ws >>= λ ls. Ok (l ∷ ls))
-literals_of-cons w ws l other e = rw (other, e) refl
+literals_to_end-cons : (w : List ℕ) (ws : List (List ℕ)) (l : ℤ) → is_end w ≡ false → literal_of w ≡ Some l →
+    literals_to_end (w ∷ ws) ≡ (literals_to_end ws >>= λ ls. Ok (l ∷ ls))
+literals_to_end-cons w ws l other e = rw (other, e) refl
 
 -- a literal is read, and what is behind it is to come
-pub literals_of-literal : (front : List ℤ) (w : List ℕ) (ws : List (List ℕ)) (l : ℤ) → is_end w ≡ false → literal_of w ≡ Some l →
-    with_front (front ++ l ∷ []) (literals_of ws) ≡ with_front front (literals_of (w ∷ ws))
-literals_of-literal front w ws l other e = with_front-cons front l (literals_of ws) ∙ sym (ap (with_front front) (literals_of-cons w ws l other e))
+pub literals_to_end-literal : (front : List ℤ) (w : List ℕ) (ws : List (List ℕ)) (l : ℤ) → is_end w ≡ false → literal_of w ≡ Some l →
+    with_front (front ++ l ∷ []) (literals_to_end ws) ≡ with_front front (literals_to_end (w ∷ ws))
+literals_to_end-literal front w ws l other e = with_front-cons front l (literals_to_end ws) ∙ sym (ap (with_front front) (literals_to_end-cons w ws l other e))
 
 -- a line of which a literal is read begins with one
 pub begins-literal : (w : List ℕ) (ws : List (List ℕ)) (l : ℤ) → literal_of w ≡ Some l → IsTrue (begins_with_literal (w ∷ ws))

@@ -1,5 +1,5 @@
 pub mod Lines
-pub mod Numbers
+pub mod NumberWords
 pub mod Reading
 pub mod Refusals
 pub mod Words

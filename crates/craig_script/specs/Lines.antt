@@ -49,7 +49,7 @@ abbrev pub script_lines : List ℕ → List Line
 script_lines bytes = map line_of (lines bytes)
 
 -- a stream that is cut into lines as it comes
-pub record Cut : Type 0 where
+pub record LinesView : Type 0 where
   -- the lines that have come and weren't given yet
   pub ready : List Line
   -- the bytes after the last newline so far, cut off where they are enough to be overlong
@@ -58,28 +58,28 @@ pub record Cut : Type 0 where
   pub finished : Bool
 
 -- a stream that hasn't ended, with these lines and this part of the next
-abbrev pub cut_of : List Line → List ℕ → Cut
-cut_of ready partial = record { ready = ready; partial = partial; finished = false }
+abbrev pub unended : List Line → List ℕ → LinesView
+unended ready partial = record { ready = ready; partial = partial; finished = false }
 
 -- nothing has come
-abbrev pub start : Cut
-start = cut_of [] []
+abbrev pub before_first_byte : LinesView
+before_first_byte = unended [] []
 
 -- as much of a line as tells what it is
-unfoldable pub kept : List ℕ → List ℕ
-kept bytes = take (line_limit + 1) bytes
+unfoldable pub cut_back : List ℕ → List ℕ
+cut_back bytes = take (line_limit + 1) bytes
 
--- less than a whole line, and no more of it than is kept
+-- less than a whole line, and no more of it than it is cut back to
 pub record IsPartial (bytes : List ℕ) : Type 0 where
   pub bounded : length bytes ≤ line_limit + 1
   pub open_ended : has_newline bytes ≡ false
 
 -- a piece of the stream has come
-abbrev pub fed : Cut → List ℕ → Cut
-fed cut piece = cut_of (cut.ready ++ map line_of (whole_lines (cut.partial ++ piece))) (kept (last_part (cut.partial ++ piece)))
+abbrev pub fed : LinesView → List ℕ → LinesView
+fed cut piece = unended (cut.ready ++ map line_of (whole_lines (cut.partial ++ piece))) (cut_back (last_part (cut.partial ++ piece)))
 
 -- the stream has ended, so what has come of the next line is a line where it has a byte
-abbrev pub ended : Cut → Cut
+abbrev pub ended : LinesView → LinesView
 ended cut = record {
   ready = cut.ready ++ map line_of (unless_empty cut.partial);
   partial = [];
@@ -87,10 +87,10 @@ ended cut = record {
 }
 
 -- the same, if lines that were given before are counted in
-abbrev pub after : List Line → Cut → Cut
-after given cut = record { ready = given ++ cut.ready; partial = cut.partial; finished = cut.finished }
+abbrev pub with_given : List Line → LinesView → LinesView
+with_given given cut = record { ready = given ++ cut.ready; partial = cut.partial; finished = cut.finished }
 
 -- pieces of the stream have come, one after the other
-abbrev pub all_fed : Cut → List (List ℕ) → Cut
+abbrev pub all_fed : LinesView → List (List ℕ) → LinesView
 all_fed cut [] = cut
 all_fed cut (piece ∷ pieces) = all_fed (fed cut piece) pieces

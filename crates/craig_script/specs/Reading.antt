@@ -14,7 +14,7 @@ use Rattle.craig_script.specs.declared.refusal.LineFault.{LineFault}
 use Rattle.craig_script.specs.declared.refusal.LineFault.TheVariants.{Refused, NoMemory}
 use Rattle.craig_script.specs.Lines.{line_limit}
 use Rattle.craig_script.specs.Words.{words}
-use Rattle.craig_script.specs.Numbers.{number_of, literal_of}
+use Rattle.craig_script.specs.NumberWords.{number_of, literal_of}
 
 -- goes on with what was read, or stays refused
 infixl 10 ◌>>=◌
@@ -37,16 +37,16 @@ then_nothing [] x = Ok x
 then_nothing (w ∷ ws) x = Err Syntax
 
 -- literals, and the end
-abbrev pub literals_of : List (List ℕ) → Result (List ℤ) Refusal
-literals_of [] = Err Syntax
-literals_of (w ∷ ws) =
+abbrev pub literals_to_end : List (List ℕ) → Result (List ℤ) Refusal
+literals_to_end [] = Err Syntax
+literals_to_end (w ∷ ws) =
     if is_end w then then_nothing ws []
-    else (or_syntax (literal_of w) >>= λ l. (literals_of ws >>= λ ls. Ok (l ∷ ls)))
+    else (or_syntax (literal_of w) >>= λ l. (literals_to_end ws >>= λ ls. Ok (l ∷ ls)))
 
 -- a part, literals, and the end
 abbrev pub add_of : List (List ℕ) → Result Command Refusal
 add_of [] = Err Syntax
-add_of (w ∷ ws) = or_syntax (number_of w) >>= λ part. (literals_of ws >>= λ lits. Ok (Add part lits))
+add_of (w ∷ ws) = or_syntax (number_of w) >>= λ part. (literals_to_end ws >>= λ lits. Ok (Add part lits))
 
 -- the end alone
 abbrev pub solve_of : List (List ℕ) → Result Command Refusal
@@ -76,16 +76,16 @@ abbrev pub variable_limit : ℕ
 variable_limit = 2147483647
 
 -- the parts that the command names
-abbrev pub parts_of : Command → List ℕ
-parts_of Nothing = []
-parts_of (Add part lits) = part ∷ []
-parts_of (Solve pairs) = map (λ pair. pair.0) pairs
+abbrev pub parts_named : Command → List ℕ
+parts_named Nothing = []
+parts_named (Add part lits) = part ∷ []
+parts_named (Solve pairs) = map (λ pair. pair.0) pairs
 
 -- the variables that the command names
-abbrev pub variables_of : Command → List ℕ
-variables_of Nothing = []
-variables_of (Add part lits) = map unsigned_abs lits
-variables_of (Solve pairs) = map (λ pair. unsigned_abs pair.1) pairs
+abbrev pub variables_named : Command → List ℕ
+variables_named Nothing = []
+variables_named (Add part lits) = map unsigned_abs lits
+variables_named (Solve pairs) = map (λ pair. unsigned_abs pair.1) pairs
 
 -- whether the number is from 1 to the limit
 abbrev pub is_within : ℕ → ℕ → Bool
@@ -94,8 +94,8 @@ is_within limit n = nat_le 1 n && nat_le n limit
 -- the tests on what a command names: all of its parts first, then all of its variables
 abbrev pub admitted : ℕ → Command → Result (Unit {0}) Refusal
 admitted parts command =
-    if not (list_all (is_within parts) (parts_of command)) then Err Range
-    else if not (list_all (is_within variable_limit) (variables_of command)) then Err Variable
+    if not (list_all (is_within parts) (parts_named command)) then Err Range
+    else if not (list_all (is_within variable_limit) (variables_named command)) then Err Variable
     else Ok tt
 
 -- how a line is read: the command, or the first refusal
@@ -103,14 +103,14 @@ abbrev pub read_line : ℕ → Bool → Line → Result Command Refusal
 read_line parts any_clause line = parsed line >>= λ command. (admitted parts command >>= λ _. Ok command)
 
 -- a fault is the refusal that reading gives, unless memory ran out
-abbrev pub Fails : {X : Type 0} → LineFault → Result X Refusal → Type 0
-Fails (NoMemory e) read = Unit {0}
-Fails (Refused r) read = read ≡ Err r
+abbrev pub IsFaultOf : {X : Type 0} → LineFault → Result X Refusal → Type 0
+IsFaultOf (NoMemory e) read = Unit {0}
+IsFaultOf (Refused r) read = read ≡ Err r
 
 -- what was returned is what reading gives, unless memory ran out
-abbrev pub Gives : {X : Type 0} → Result X LineFault → Result X Refusal → Type 0
-Gives (Ok x) read = read ≡ Ok x
-Gives (Err e) read = Fails e read
+abbrev pub IsReadAs : {X : Type 0} → Result X LineFault → Result X Refusal → Type 0
+IsReadAs (Ok x) read = read ≡ Ok x
+IsReadAs (Err e) read = IsFaultOf e read
 
 -- want of memory
 abbrev pub IsNoMemory : LineFault → Type 0

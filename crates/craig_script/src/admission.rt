@@ -3,7 +3,7 @@
 ghost use Rattle.std.specs.Prelude.{◌≡◌};
 ghost use Rattle.std.specs.List.{list_all};
 ghost use Rattle.std.specs.Int.RustNames.{unsigned_abs};
-ghost use Rattle.craig_script.specs.Reading.{admitted, parts_of, variables_of, is_within, variable_limit};
+ghost use Rattle.craig_script.specs.Reading.{admitted, parts_named, variables_named, is_within, variable_limit};
 
 use crate::command::Command;
 use crate::refusal::Refusal;
@@ -27,7 +27,7 @@ pub fn admit(parts: u16, any_clause: bool, command: &Command) -> Result<(), Refu
 
 // Whether each part that the command names is from 1 to the limit.
 fn parts_are_within(limit: u64, command: &Command) -> bool
-    ensures { result ≡ list_all (is_within limit) (parts_of command.now) }
+    ensures { result ≡ list_all (is_within limit) (parts_named command.now) }
 {
     match command {
         Command::Nothing => true,
@@ -38,7 +38,7 @@ fn parts_are_within(limit: u64, command: &Command) -> bool
 
 // Whether each variable that the command names is from 1 to the limit.
 fn variables_are_within(limit: u64, command: &Command) -> bool
-    ensures { result ≡ list_all (is_within limit) (variables_of command.now) }
+    ensures { result ≡ list_all (is_within limit) (variables_named command.now) }
 {
     match command {
         Command::Nothing => true,

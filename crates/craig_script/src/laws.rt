@@ -4,27 +4,27 @@ ghost use Rattle.std.specs.Prelude.{◌≡◌, ◌≢◌, ℕ, ◌^◌, ◌<◌,
 ghost use Rattle.std.specs.Fmt.{decimal, signed_decimal};
 ghost use Rattle.std.specs.Int.RustNames.{unsigned_abs};
 ghost use Rattle.std.specs.List.{concat};
-ghost use Rattle.craig_script.specs.Numbers.{digit_limit, number_of, literal_of};
+ghost use Rattle.craig_script.specs.NumberWords.{digit_limit, number_of, literal_of};
 ghost use Rattle.craig_script.specs.declared.line.Line.{Line};
-ghost use Rattle.craig_script.specs.Lines.{Cut, start, fed, ended, after, all_fed, line_of, whole_lines, script_lines};
+ghost use Rattle.craig_script.specs.Lines.{LinesView, before_first_byte, fed, ended, with_given, all_fed, line_of, whole_lines, script_lines};
 
 /// It makes no difference where a stream is cut into pieces.
 pub fn cut_anywhere()
-    ensures pieces { (cut : Cut) (a b : List ℕ) → fed (fed cut a) b ≡ fed cut (a ++ b) }
-    ensures nothing { fed start [] ≡ start }
-    ensures all { (pieces : List (List ℕ)) → all_fed start pieces ≡ fed start (concat pieces) }
+    ensures pieces { (cut : LinesView) (a b : List ℕ) → fed (fed cut a) b ≡ fed cut (a ++ b) }
+    ensures nothing { fed before_first_byte [] ≡ before_first_byte }
+    ensures all { (pieces : List (List ℕ)) → all_fed before_first_byte pieces ≡ fed before_first_byte (concat pieces) }
 {}
 
 /// What a stream that was fed whole gives, before and after its end.
 pub fn whole_stream()
-    ensures ready { (stream : List ℕ) → (fed start stream).ready ≡ map line_of (whole_lines stream) }
-    ensures ended { (stream : List ℕ) → (ended (fed start stream)).ready ≡ script_lines stream }
+    ensures ready { (stream : List ℕ) → (fed before_first_byte stream).ready ≡ map line_of (whole_lines stream) }
+    ensures ended { (stream : List ℕ) → (ended (fed before_first_byte stream)).ready ≡ script_lines stream }
 {}
 
 /// Lines that were given before may be counted in: what comes next changes nothing in front of it.
 pub fn given_before()
-    ensures fed { (given : List Line) (cut : Cut) (piece : List ℕ) → fed (after given cut) piece ≡ after given (fed cut piece) }
-    ensures ended { (given : List Line) (cut : Cut) → ended (after given cut) ≡ after given (ended cut) }
+    ensures fed { (given : List Line) (cut : LinesView) (piece : List ℕ) → fed (with_given given cut) piece ≡ with_given given (fed cut piece) }
+    ensures ended { (given : List Line) (cut : LinesView) → ended (with_given given cut) ≡ with_given given (ended cut) }
 {}
 
 /// The numbers are the decimal forms of those below 10 ^ 18, and literals are read back.

@@ -5,7 +5,7 @@
 
 ghost use Rattle.std.specs.Prelude.{◌≡◌, ℕ, ◌+◌, ◌<◌, ◌≤◌, Bool, true, false, List, [], ◌∷◌, ◌++◌, length, map, IsTrue, IfSome, IfNone, IfOk, OnOk, OnErr};
 ghost use Rattle.std.specs.List.{position};
-ghost use Rattle.craig_script.specs.Lines.{cut_of, start, fed, ended, line_of, kept, is_newline, has_newline, IsPartial};
+ghost use Rattle.craig_script.specs.Lines.{unended, before_first_byte, fed, ended, line_of, cut_back, is_newline, has_newline, IsPartial};
 
 use crate::bytes::Bytes;
 use crate::line::Line;
@@ -29,9 +29,9 @@ pub struct Lines {
 }
 
 impl Model for Lines {
-    ghost use Rattle.craig_script.specs.Lines.{Cut, IsPartial};
+    ghost use Rattle.craig_script.specs.Lines.{LinesView, IsPartial};
 
-    ghost Value = { Cut };
+    ghost Value = { LinesView };
 
     ghost view = { λ l. record { ready = l.ready.items; partial = l.partial; finished = l.finished } };
 
@@ -41,7 +41,7 @@ impl Model for Lines {
 impl Lines {
     /// Nothing has come yet. It takes no memory.
     pub fn new(alloc: Global) -> Lines
-        ensures { result ≡ start }
+        ensures { result ≡ before_first_byte }
     {
         Lines {
             alloc,
@@ -95,7 +95,7 @@ fn take_in(
 ) -> Result<(), AllocError>
     requires { IsPartial partial.old }
     ensures partial { IsPartial partial.new }
-    ensures ok { OnOk result (cut_of ready.new.items partial.new ≡ fed (cut_of ready.old.items partial.old) bytes.now) }
+    ensures ok { OnOk result (unended ready.new.items partial.new ≡ fed (unended ready.old.items partial.old) bytes.now) }
     ensures err { OnErr result ((ready.new.items ≡ ready.old.items) × (partial.new ≡ partial.old)) }
 {
     let Some((front, behind)) = split_line(bytes) else {
@@ -110,7 +110,7 @@ fn take_in(
 
 // The whole lines of the bytes, and what is kept of the part after the last newline.
 fn cut_lines(alloc: Global, bytes: &[u8]) -> Result<(VecDeque<Line>, Bytes), AllocError>
-    ensures { IfOk result (λ cut. IsPartial cut.1 × (cut_of cut.0.items cut.1 ≡ fed start bytes.now)) }
+    ensures { IfOk result (λ cut. IsPartial cut.1 × (unended cut.0.items cut.1 ≡ fed before_first_byte bytes.now)) }
 {
     let mut lines = VecDeque::new(alloc);
     let mut partial = Bytes::new(alloc);
@@ -141,7 +141,7 @@ fn keep(partial: &mut Bytes, bytes: &[u8]) -> Result<(), AllocError>
     requires partial { IsPartial partial.old }
     requires open_ended { has_newline bytes.now ≡ false }
     ensures partial { IsPartial partial.new }
-    ensures ok { OnOk result (partial.new ≡ kept (partial.old ++ bytes.now)) }
+    ensures ok { OnOk result (partial.new ≡ cut_back (partial.old ++ bytes.now)) }
     ensures err { OnErr result (partial.new ≡ partial.old) }
 {
     let room = LINE_LIMIT + 1 - partial.len();

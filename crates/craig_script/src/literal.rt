@@ -4,7 +4,7 @@ ghost use Rattle.std.specs.Prelude.{◌≡◌, ◌^◌, ◌<◌, ◌≤◌, leng
 ghost use Rattle.std.specs.Char.{is_ascii_digit};
 ghost use Rattle.std.specs.List.{list_all};
 ghost use Rattle.std.specs.Str.Parse.{digits_value};
-ghost use Rattle.craig_script.specs.Numbers.{is_number, number_of, unless_zero, literal_of, digit_limit};
+ghost use Rattle.craig_script.specs.NumberWords.{is_number, number_of, unless_zero, literal_of, digit_limit};
 
 /// The most digits of a number.
 const DIGIT_LIMIT: usize = 18;

@@ -1,11 +1,11 @@
 -- How far a run has come, read by read, and how it may end.
 use Rattle.std.proofs.Common.{◌≡◌, ◌∙◌, ◌≤◌, ◌<◌, ◌+◌, length-append, sym, ap, subst, List, ℕ, zero, suc, [], ◌∷◌, ◌++◌, refl, length, take, drop, inl, inr, Option, Some, map, Ok, Err, arith}
 use Rattle.std.proofs.lemmas.List.{append_assoc, append-nil, take-append-drop, map-append}
-use Rattle.craig_io.specs.Told.{StaysTold}
+use Rattle.craig_io.specs.ToldBytes.{StaysTold}
 use Rattle.craig_io.specs.Source.{TakesFirst}
 use Rattle.craig_script.specs.declared.line.Line.{Line}
 use Rattle.craig_script.specs.Lines as cut
-use Rattle.craig_script.proofs.LinesLemmas.{fed-fed, fed-start, script_lines-ended, whole_lines-append}
+use Rattle.craig_script.proofs.LinesLemmas.{fed-fed, fed-before_first_byte, script_lines-ended, whole_lines-append}
 use Rattle.craig_top.specs.declared.settings.Settings.{Settings}
 use Rattle.craig_top.specs.declared.status.Status.TheVariants as status
 use Rattle.craig_top.specs.declared.run.Stop.{Stop}
@@ -50,16 +50,16 @@ BreaksOff-after state a lines more s t p b = (
 -- ---- the lines of a stream that comes in pieces
 
 -- the lines that a piece more makes whole
-whole-append : (taken piece : List ℕ) (lines : cut.Cut) → lines ≡ emptied (cut.fed cut.start taken) → whole (taken ++ piece) ≡ whole taken ++ (cut.fed lines piece).ready
+whole-append : (taken piece : List ℕ) (lines : cut.LinesView) → lines ≡ emptied (cut.fed cut.before_first_byte taken) → whole (taken ++ piece) ≡ whole taken ++ (cut.fed lines piece).ready
 whole-append taken piece lines e =
-    sym (ap (λ (c : cut.Cut). c.ready) (fed-fed cut.start taken piece)) ∙ ap (λ (c : cut.Cut). whole taken ++ (cut.fed c piece).ready) (sym e)
+    sym (ap (λ (c : cut.LinesView). c.ready) (fed-fed cut.before_first_byte taken piece)) ∙ ap (λ (c : cut.LinesView). whole taken ++ (cut.fed c piece).ready) (sym e)
 
-lines-append : (taken piece : List ℕ) (lines : cut.Cut) → lines ≡ emptied (cut.fed cut.start taken) → emptied (cut.fed lines piece) ≡ emptied (cut.fed cut.start (taken ++ piece))
-lines-append taken piece lines e = ap (λ (c : cut.Cut). emptied (cut.fed c piece)) e ∙ ap emptied (fed-fed cut.start taken piece)
+lines-append : (taken piece : List ℕ) (lines : cut.LinesView) → lines ≡ emptied (cut.fed cut.before_first_byte taken) → emptied (cut.fed lines piece) ≡ emptied (cut.fed cut.before_first_byte (taken ++ piece))
+lines-append taken piece lines e = ap (λ (c : cut.LinesView). emptied (cut.fed c piece)) e ∙ ap emptied (fed-fed cut.before_first_byte taken piece)
 
 -- all lines of a stream that has ended
-all_lines : (taken : List ℕ) (lines : cut.Cut) → lines ≡ emptied (cut.fed cut.start taken) → cut.script_lines taken ≡ whole taken ++ (cut.ended lines).ready
-all_lines taken lines e = sym (script_lines-ended taken) ∙ ap (λ (c : cut.Cut). whole taken ++ (cut.ended c).ready) (sym e)
+all_lines : (taken : List ℕ) (lines : cut.LinesView) → lines ≡ emptied (cut.fed cut.before_first_byte taken) → cut.script_lines taken ≡ whole taken ++ (cut.ended lines).ready
+all_lines taken lines e = sym (script_lines-ended taken) ∙ ap (λ (c : cut.LinesView). whole taken ++ (cut.ended c).ready) (sym e)
 
 -- the whole lines of what was taken are the first lines of the script
 script_lines-begins : (taken rest : List ℕ) → (more : List Line) × (cut.script_lines (taken ++ rest) ≡ whole taken ++ more)
@@ -72,9 +72,9 @@ script_lines-begins taken rest = (
 
 -- ---- progress
 
-pub Progress-start : (settings : Settings) (left held : Option (List ℕ)) (session : State) (lines : cut.Cut) → session ≡ start settings → lines ≡ cut.start → Progress settings left held left held session lines []
+pub Progress-start : (settings : Settings) (left held : Option (List ℕ)) (session : State) (lines : cut.LinesView) → session ≡ start settings → lines ≡ cut.before_first_byte → Progress settings left held left held session lines []
 Progress-start settings left held session lines e f = record {
-  lines_are = f ∙ sym (ap emptied fed-start);
+  lines_are = f ∙ sym (ap emptied fed-before_first_byte);
   session_is = e;
   told = λ all h. (all, refl, h);
   put = λ text h. ([], refl, h ∙ ap Some (sym (append-nil text)));
@@ -88,7 +88,7 @@ pub Takes-read : (n : ℕ) (into : List ℕ) (before later : Option (List ℕ)) 
 Takes-read n into before later t = λ bytes e. (drop n bytes, sym (take-append-drop n bytes) ∙ ap (λ z. z ++ drop n bytes) (sym (t.stand bytes e)), t.gone bytes e)
 
 -- a piece more was taken and answered
-pub Progress-more : (settings : Settings) (lb hb l1 h1 l2 h2 : Option (List ℕ)) (session1 session2 : State) (lines1 lines2 : cut.Cut) (taken piece : List ℕ)
+pub Progress-more : (settings : Settings) (lb hb l1 h1 l2 h2 : Option (List ℕ)) (session1 session2 : State) (lines1 lines2 : cut.LinesView) (taken piece : List ℕ)
     → Progress settings lb hb l1 h1 session1 lines1 taken → Takes piece l1 l2 → lines2 ≡ emptied (cut.fed lines1 piece) → session2 ≡ after session1 (cut.fed lines1 piece).ready
     → Puts h1 h2 (Transcript session1 (cut.fed lines1 piece).ready) → Progress settings lb hb l2 h2 session2 lines2 (taken ++ piece)
 Progress-more settings lb hb l1 h1 l2 h2 session1 session2 lines1 lines2 taken piece p takes e f puts =
@@ -110,7 +110,7 @@ Progress-more settings lb hb l1 h1 l2 h2 session1 session2 lines1 lines2 taken p
 -- ---- endings
 
 -- the run was stopped while it answered the lines of ready, which follow those that are whole
-pub Promise-stopped : (settings : Settings) (bound : ℕ) (lb hb l1 h1 l2 h2 : Option (List ℕ)) (session : State) (lines : cut.Cut) (taken : List ℕ) (ready : List Line) (s : Stop)
+pub Promise-stopped : (settings : Settings) (bound : ℕ) (lb hb l1 h1 l2 h2 : Option (List ℕ)) (session : State) (lines : cut.LinesView) (taken : List ℕ) (ready : List Line) (s : Stop)
     → Progress settings lb hb l1 h1 session lines taken
     → ((rest : List ℕ) → l1 ≡ Some rest → (piece : List ℕ) × (left : List ℕ) × (more : List Line) × (rest ≡ piece ++ left) × (l2 ≡ Some left) × (length (taken ++ piece) ≤ bound)
     × (cut.script_lines ((taken ++ piece) ++ left) ≡ (whole taken ++ ready) ++ more))
@@ -151,7 +151,7 @@ Promise-stopped settings bound lb hb l1 h1 l2 h2 session lines taken ready stop.
     )
 
 -- a piece more was taken, and answering its lines stopped
-pub Promise-piece : (settings : Settings) (bound : ℕ) (lb hb l1 h1 l2 h2 : Option (List ℕ)) (session : State) (lines : cut.Cut) (taken piece : List ℕ) (s : Stop)
+pub Promise-piece : (settings : Settings) (bound : ℕ) (lb hb l1 h1 l2 h2 : Option (List ℕ)) (session : State) (lines : cut.LinesView) (taken piece : List ℕ) (s : Stop)
     → Progress settings lb hb l1 h1 session lines taken → length taken + length piece ≤ bound → Takes piece l1 l2 → Stopped s session (cut.fed lines piece).ready h1 h2
     → Promise settings bound (status_of (Err s)) lb l2 hb h2
 Promise-piece settings bound lb hb l1 h1 l2 h2 session lines taken piece s p within takes stopped =
@@ -170,7 +170,7 @@ pub IsAtEnd-read : (n : ℕ) (into : List ℕ) (before later : Option (List ℕ)
 IsAtEnd-read n into before later z t = λ bytes e. let none = t.end bytes e z in (none, t.gone bytes e ∙ ap Some (rw (none, z) refl))
 
 -- the input has ended, and answering the last line stopped
-pub Promise-end : (settings : Settings) (bound : ℕ) (lb hb l1 h1 l2 h2 : Option (List ℕ)) (session : State) (lines : cut.Cut) (taken : List ℕ) (s : Stop)
+pub Promise-end : (settings : Settings) (bound : ℕ) (lb hb l1 h1 l2 h2 : Option (List ℕ)) (session : State) (lines : cut.LinesView) (taken : List ℕ) (s : Stop)
     → Progress settings lb hb l1 h1 session lines taken → length taken < bound → IsAtEnd l1 l2 → Stopped s session (cut.ended lines).ready h1 h2 → Promise settings bound (status_of (Err s)) lb l2 hb h2
 Promise-end settings bound lb hb l1 h1 l2 h2 session lines taken s p below ended stopped =
     Promise-stopped settings bound lb hb l1 h1 l2 h2 session lines taken (cut.ended lines).ready s p
@@ -188,7 +188,7 @@ Promise-end settings bound lb hb l1 h1 l2 h2 session lines taken s p below ended
     stopped
 
 -- the input has ended, and all its lines are answered
-pub Promise-done : (settings : Settings) (bound : ℕ) (lb hb l1 h1 l2 h2 : Option (List ℕ)) (session : State) (lines : cut.Cut) (taken : List ℕ)
+pub Promise-done : (settings : Settings) (bound : ℕ) (lb hb l1 h1 l2 h2 : Option (List ℕ)) (session : State) (lines : cut.LinesView) (taken : List ℕ)
     → Progress settings lb hb l1 h1 session lines taken → length taken < bound → IsAtEnd l1 l2 → Puts h1 h2 (Transcript session (cut.ended lines).ready) → Promise settings bound status.Done lb l2 hb h2
 Promise-done settings bound lb hb l1 h1 l2 h2 session lines taken p below ended puts = λ all h.
     let before = p.told all h in
@@ -209,14 +209,14 @@ Promise-done settings bound lb hb l1 h1 l2 h2 session lines taken p below ended 
     )
 
 -- a read failed
-pub Promise-read_fault : (settings : Settings) (bound : ℕ) (lb hb l1 h1 l2 : Option (List ℕ)) (session : State) (lines : cut.Cut) (taken : List ℕ)
+pub Promise-read_fault : (settings : Settings) (bound : ℕ) (lb hb l1 h1 l2 : Option (List ℕ)) (session : State) (lines : cut.LinesView) (taken : List ℕ)
     → Progress settings lb hb l1 h1 session lines taken → length taken < bound → StaysTold l1 l2 → Promise settings bound status.ReadFault lb l2 hb h1
 Promise-read_fault settings bound lb hb l1 h1 l2 session lines taken p below stays = λ all h.
     let before = p.told all h in
     (taken, before.0, before.1, stays.same before.0 before.2, below, λ held k. let first = p.put held k in (first.0, first.2, first.1))
 
 -- the bound is reached
-pub Promise-too_long : (settings : Settings) (bound : ℕ) (lb hb l1 h1 : Option (List ℕ)) (session : State) (lines : cut.Cut) (taken : List ℕ)
+pub Promise-too_long : (settings : Settings) (bound : ℕ) (lb hb l1 h1 : Option (List ℕ)) (session : State) (lines : cut.LinesView) (taken : List ℕ)
     → Progress settings lb hb l1 h1 session lines taken → length taken ≡ bound → Promise settings bound status.TooLong lb l1 hb h1
 Promise-too_long settings bound lb hb l1 h1 session lines taken p reached = λ all h.
     let before = p.told all h in
@@ -228,17 +228,17 @@ Promise-unread settings bound left held = λ all h. ([], all, refl, h, omega ari
 
 -- ---- what a step leaves, by the number of bytes that it took
 
-pub StepLeaves-more : (settings : Settings) (bound : ℕ) (lb hb l h : Option (List ℕ)) (session : State) (lines : cut.Cut) (taken piece : List ℕ) (n : ℕ) → (n ≡ 0 → ⊥)
+pub StepLeaves-more : (settings : Settings) (bound : ℕ) (lb hb l h : Option (List ℕ)) (session : State) (lines : cut.LinesView) (taken piece : List ℕ) (n : ℕ) → (n ≡ 0 → ⊥)
     → Progress settings lb hb l h session lines (taken ++ take n piece) → StepLeaves settings bound lb hb l h session lines taken piece (Ok n)
 StepLeaves-more settings bound lb hb l h session lines taken piece zero some p = absurd (some refl)
 StepLeaves-more settings bound lb hb l h session lines taken piece (suc n) some p = p
 
-pub StepLeaves-go : (settings : Settings) (bound : ℕ) (lb hb l h : Option (List ℕ)) (session : State) (lines : cut.Cut) (taken piece : List ℕ) (n : ℕ) → (n ≡ 0 → ⊥)
+pub StepLeaves-go : (settings : Settings) (bound : ℕ) (lb hb l h : Option (List ℕ)) (session : State) (lines : cut.LinesView) (taken piece : List ℕ) (n : ℕ) → (n ≡ 0 → ⊥)
     → StepLeaves settings bound lb hb l h session lines taken piece (Ok n) → Progress settings lb hb l h session lines (taken ++ take n piece)
 StepLeaves-go settings bound lb hb l h session lines taken piece zero some leaves = absurd (some refl)
 StepLeaves-go settings bound lb hb l h session lines taken piece (suc n) some leaves = leaves
 
-pub StepLeaves-done : (settings : Settings) (bound : ℕ) (lb hb l h : Option (List ℕ)) (session : State) (lines : cut.Cut) (taken piece : List ℕ) (n : ℕ) → n ≡ 0
+pub StepLeaves-done : (settings : Settings) (bound : ℕ) (lb hb l h : Option (List ℕ)) (session : State) (lines : cut.LinesView) (taken piece : List ℕ) (n : ℕ) → n ≡ 0
     → StepLeaves settings bound lb hb l h session lines taken piece (Ok n) → Promise settings bound status.Done lb l hb h
 StepLeaves-done settings bound lb hb l h session lines taken piece zero none leaves = leaves
 StepLeaves-done settings bound lb hb l h session lines taken piece (suc n) none leaves = absurd (omega arith)

@@ -10,8 +10,8 @@ use Rattle.craig_script.specs.declared.refusal.Refusal.{Refusal}
 use Rattle.craig_script.specs.declared.refusal.Refusal.TheVariants.{Syntax, Overlong}
 use Rattle.craig_script.specs.Lines.{line_limit}
 use Rattle.craig_script.specs.Words.{words}
-use Rattle.craig_script.specs.Numbers.{number_of}
-use Rattle.craig_script.specs.Reading.{◌>>=◌, or_syntax, is_end, then_nothing, literals_of, add_of, solve_of, command_of, parsed, is_comment, admitted, read_line}
+use Rattle.craig_script.specs.NumberWords.{number_of}
+use Rattle.craig_script.specs.Reading.{◌>>=◌, or_syntax, is_end, then_nothing, literals_to_end, add_of, solve_of, command_of, parsed, is_comment, admitted, read_line}
 use Rattle.craig_top.specs.Unassuming.{IsUnassuming}
 
 -- the command of a reading, where there is one, has no assumptions
@@ -30,7 +30,7 @@ add_made (Err e) ls = tt
 
 add_read : (ws : List (List ℕ)) → AllUnassuming (add_of ws)
 add_read [] = tt
-add_read (w ∷ ws) = add_made (or_syntax (number_of w)) (literals_of ws)
+add_read (w ∷ ws) = add_made (or_syntax (number_of w)) (literals_to_end ws)
 
 end_read : (ws : List (List ℕ)) → AllUnassuming (then_nothing ws (Solve []))
 end_read [] = refl

@@ -11,8 +11,8 @@ use Rattle.craig_top.specs.Ending.{whole, Promise}
 use Rattle.craig_top.specs.Puts.{Puts}
 
 -- these bytes were taken of the source, the lines whose newline is among them are answered, and what comes after waits
-pub record Progress (settings : Settings) (left_before held_before left_now held_now : Option (List ℕ)) (session : State) (lines : cut.Cut) (taken : List ℕ) : Type 0 where
-  pub lines_are : lines ≡ emptied (cut.fed cut.start taken)
+pub record Progress (settings : Settings) (left_before held_before left_now held_now : Option (List ℕ)) (session : State) (lines : cut.LinesView) (taken : List ℕ) : Type 0 where
+  pub lines_are : lines ≡ emptied (cut.fed cut.before_first_byte taken)
   pub session_is : session ≡ after (start settings) (whole taken)
   pub told : (all : List ℕ) → left_before ≡ Some all → (rest : List ℕ) × (all ≡ taken ++ rest) × (left_now ≡ Some rest)
   pub put : Puts held_before held_now (Transcript (start settings) (whole taken))
@@ -23,7 +23,7 @@ IsStop status = (status ≢ Done) × (status ≢ Usage) × (status ≢ TooLong)
 
 -- after one read more, which had these bytes in its piece: the first of them were taken and answered, or the run is
 -- done, or it stops
-abbrev pub StepLeaves : Settings → (bound : ℕ) → (left_before held_before left_now held_now : Option (List ℕ)) → State → cut.Cut → (taken piece : List ℕ) → Result ℕ Status → Type 0
+abbrev pub StepLeaves : Settings → (bound : ℕ) → (left_before held_before left_now held_now : Option (List ℕ)) → State → cut.LinesView → (taken piece : List ℕ) → Result ℕ Status → Type 0
 StepLeaves settings bound left_before held_before left_now held_now session lines taken piece (Ok zero) = Promise settings bound Done left_before left_now held_before held_now
 StepLeaves settings bound left_before held_before left_now held_now session lines taken piece (Ok (suc n)) =
     Progress settings left_before held_before left_now held_now session lines (taken ++ take (suc n) piece)

@@ -3,7 +3,7 @@
 ghost use Rattle.std.specs.Prelude.{◌≡◌, ◌≢◌, ℕ, [], ◌++◌, true, false, List, IsTrue, map, None, Ok, OnOk, OnErr, IsErr, IfOk};
 ghost use Rattle.std.specs.List.{list_all};
 ghost use Rattle.std.specs.Int.RustNames.{unsigned_abs};
-ghost use Rattle.craig_script.specs.Reading.{Gives, admitted, is_within, variable_limit};
+ghost use Rattle.craig_script.specs.Reading.{IsReadAs, admitted, is_within, variable_limit};
 
 use crate::clause::dense_clause;
 use crate::reply::{append_ok, append_refusal};
@@ -113,7 +113,7 @@ impl Session {
 
     /// The command of a line, or the first reason to refuse it.
     fn read(&self, line: &Line) -> Result<Command, LineFault>
-        ensures reading { Gives result (reading self.now.state line.now) }
+        ensures reading { IsReadAs result (reading self.now.state line.now) }
         ensures admitted { IfOk result (λ command. admitted self.now.state.parts command ≡ Ok tt) }
         ensures unassuming { IfOk result IsUnassuming }
     {

@@ -1,8 +1,8 @@
 use Rattle.std.proofs.Common.{◌≡◌, ℕ, inl, inr, IsTrue, List, [], ◌∷◌, ◌++◌, Some, false, sym, ◌∙◌, ap, subst, rules}
 use Rattle.craig_script.specs.Words.{words}
-use Rattle.craig_script.specs.Numbers.{literal_of}
-use Rattle.craig_script.specs.Reading.{literals_of, is_end, begins_with_literal}
-use Rattle.craig_script.proofs.ReadingLemmas.{with_front, literals_of-literal, begins-literal}
+use Rattle.craig_script.specs.NumberWords.{literal_of}
+use Rattle.craig_script.specs.Reading.{literals_to_end, is_end, begins_with_literal}
+use Rattle.craig_script.proofs.ReadingLemmas.{with_front, literals_to_end-literal, begins-literal}
 use Rattle.craig_script.proofs.reading.literals.Goals as goal
 
 pub loop-word-preserved : goal.loop-word-preserved
@@ -12,8 +12,8 @@ loop-word-preserved c =
     let found : literal_of c.in-Some.word.now ≡ Some c.in-Some-literal_in.lit = search rules in
     let pushed : c.push.new.self ≡ c.loop-word.lits ++ c.in-Some-literal_in.lit ∷ [] = search rules in
     let P : List (List ℕ) → Type 0 = λ ws. IsTrue (begins_with_literal ws) in (
-      rw pushed (literals_of-literal c.loop-word.lits c.in-Some.word.now (words c.in-Some.behind.now) c.in-Some-literal_in.lit other found
-          ∙ ap (λ z. with_front c.loop-word.lits (literals_of z)) (sym cut)
+      rw pushed (literals_to_end-literal c.loop-word.lits c.in-Some.word.now (words c.in-Some.behind.now) c.in-Some-literal_in.lit other found
+          ∙ ap (λ z. with_front c.loop-word.lits (literals_to_end z)) (sym cut)
           ∙ c.loop-word.invariant.0),
       inr (elim c.loop-word.invariant.1 [
         | inl same ↦ subst P (sym cut ∙ ap words same) (begins-literal c.in-Some.word.now (words c.in-Some.behind.now) c.in-Some-literal_in.lit found)

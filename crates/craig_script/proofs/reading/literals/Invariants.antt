@@ -1,6 +1,6 @@
 use Rattle.std.proofs.Common.{◌≡◌, ◌⊎◌, IsTrue, length}
 use Rattle.craig_script.specs.Words.{words}
-use Rattle.craig_script.specs.Reading.{literals_of, begins_with_literal}
+use Rattle.craig_script.specs.Reading.{literals_to_end, begins_with_literal}
 use Rattle.craig_script.proofs.ReadingLemmas.{with_front}
 use Rattle.craig_script.proofs.reading.literals.Given as goal
 
@@ -8,7 +8,7 @@ use Rattle.craig_script.proofs.reading.literals.Given as goal
 -- something was read begins with a literal
 abbrev pub invariant-loop-word : goal.invariant-loop-word
 invariant-loop-word l =
-    (with_front l.lits (literals_of (words l.rest)) ≡ literals_of (words l.line))
+    (with_front l.lits (literals_to_end (words l.rest)) ≡ literals_to_end (words l.line))
     × ((l.rest ≡ l.line) ⊎ IsTrue (begins_with_literal (words l.line)))
 
 abbrev pub decreases-loop-word : goal.decreases-loop-word

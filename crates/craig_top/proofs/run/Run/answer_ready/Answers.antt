@@ -1,7 +1,7 @@
 use Rattle.std.proofs.Common.{◌≡◌, ◌∙◌, ◌++◌, [], ◌∷◌, sym, ap, subst, arith, List, ℕ, refl}
 use Rattle.std.proofs.lemmas.List.{append_assoc}
 use Rattle.std.proofs.lemmas.Result.{err_from_is_err_and}
-use Rattle.craig_script.specs.Lines.{Cut}
+use Rattle.craig_script.specs.Lines.{LinesView}
 use Rattle.craig_top.specs.GivenState.{State, after, next}
 use Rattle.craig_top.specs.Reply.{Reply}
 use Rattle.craig_top.proofs.TranscriptLemmas.{after-append}
@@ -13,8 +13,8 @@ whole_reply : (bytes out cleared reply : List ℕ) → bytes ≡ out → out ≡
 whole_reply bytes out cleared reply e f g = rw (e, f, g) refl
 
 -- the stream is as it was but for the lines that wait
-same_but_ready : (first old new : Cut) → old ≡ record first { ready = old.ready } → new ≡ record old { ready = new.ready } → new ≡ record first { ready = new.ready }
-same_but_ready first old new e f = f ∙ ap (λ (c : Cut). record c { ready = new.ready }) e
+same_but_ready : (first old new : LinesView) → old ≡ record first { ready = old.ready } → new ≡ record old { ready = new.ready } → new ≡ record first { ready = new.ready }
+same_but_ready first old new e f = f ∙ ap (λ (c : LinesView). record c { ready = new.ready }) e
 
 pub returns-in_err-put_all-clause-stopped : goal.returns-in_err-put_all-clause-stopped
 returns-in_err-put_all-clause-stopped g c =

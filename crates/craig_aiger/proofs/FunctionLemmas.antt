@@ -17,7 +17,7 @@ use Rattle.craig_aig.specs.Values.{edge_value_in, values}
 use Rattle.craig_aig.specs.declared.node.Node.{Node}
 use Rattle.craig_aig.specs.declared.node.Node.TheVariants.{Constant, Input, Gate}
 use Rattle.craig_aiger.specs.declared.out_name.OutName.{OutName}
-use Rattle.craig_aiger.specs.Layouts.{Layout, circuit_of, at, input_in, gate_in, gate_of, ordered, literal_of, dense_assignment, IsLayout, IsNumber, HasFunctions}
+use Rattle.craig_aiger.specs.Layouts.{Layout, circuit_of, at, node_variable, node_operands, gate_literals, ordered, edge_literal, dense_assignment, IsLayout, IsNumber, HasFunctions}
 use Rattle.craig_aiger.proofs.NeededLemmas.{operands_at, edge_at, place_at}
 use Rattle.craig_aiger.proofs.TableLemmas.{map_at}
 use Rattle.craig_aiger.proofs.UsedLemmas.{AreUsed-layout}
@@ -34,9 +34,9 @@ abbrev pub to_circuit : (ℕ × ℕ) → circuit.Gate
 to_circuit g = record { left = g.0; right = g.1 }
 
 abbrev gate_for : List ℕ → (Edge × Edge) → circuit.Gate
-gate_for numbers p = to_circuit (gate_of numbers p)
+gate_for numbers p = to_circuit (gate_literals numbers p)
 
-map_twice : (numbers : List ℕ) (ps : List (Edge × Edge)) → map to_circuit (map (gate_of numbers) ps) ≡ map (gate_for numbers) ps
+map_twice : (numbers : List ℕ) (ps : List (Edge × Edge)) → map to_circuit (map (gate_literals numbers) ps) ≡ map (gate_for numbers) ps
 map_twice numbers [] = refl
 map_twice numbers (p ∷ ps) = ap (λ l. gate_for numbers p ∷ l) (map_twice numbers ps)
 
@@ -55,7 +55,7 @@ odd n true = grind (arith, nat_tests)
 odd n false = grind (arith, nat_tests)
 
 -- the value of the literal of an edge
-value_literal : (before : List Bool) (W : List Bool) (numbers : List ℕ) (e : Edge) → get_or before (get_or numbers e.place 0) false ≡ get_or W e.place false → circuit.literal_value_in before (literal_of numbers e) ≡ edge_value_in W e
+value_literal : (before : List Bool) (W : List Bool) (numbers : List ℕ) (e : Edge) → get_or before (get_or numbers e.place 0) false ≡ get_or W e.place false → circuit.literal_value_in before (edge_literal numbers e) ≡ edge_value_in W e
 value_literal before W numbers e same =
     rw (odd (get_or numbers e.place 0) e.negated, half (get_or numbers e.place 0) e.negated, same) refl
 
@@ -111,8 +111,8 @@ module _ (nodes : List Node) (names : List ℕ) (outputs : List (OutName × Edge
         (h.needed.needed r.place (omega (arith, below.below, below.ordered))).1 (λ has roots closed. (closed k l r there (need has roots closed)).1),
       )
 
-  gates_is : map to_circuit layout.gates ≡ map (gate_for h.numbers) (filter_map gate_in h.table)
-  gates_is = ap (map to_circuit) h.gates_are ∙ map_twice h.numbers (filter_map gate_in h.table)
+  gates_is : map to_circuit layout.gates ≡ map (gate_for h.numbers) (filter_map node_operands h.table)
+  gates_is = ap (map to_circuit) h.gates_are ∙ map_twice h.numbers (filter_map node_operands h.table)
 
   module _ (values_from_bits : ValuesFromBits) (values_from_operands : ValuesFromOperands) (s : Assignment) where
     abbrev W : List Bool
@@ -129,7 +129,7 @@ module _ (nodes : List Node) (names : List ℕ) (outputs : List (OutName × Edge
     value_constant : (k : ℕ) → at h.table k ≡ Some Constant → get_or first 0 false ≡ get_or W k false
     value_constant k is = sym (values_from_operands (dense_assignment names s) nodes k Constant arena (at_node k Constant is))
 
-    value_input : (k i x : ℕ) (n : Node) → at h.table k ≡ Some n → input_in (Some n) ≡ Some x → slice_get layout.inputs i ≡ Some (get_or names x 0) → x < length names → get_or first (1 + i) false ≡ get_or W k false
+    value_input : (k i x : ℕ) (n : Node) → at h.table k ≡ Some n → node_variable (Some n) ≡ Some x → slice_get layout.inputs i ≡ Some (get_or names x 0) → x < length names → get_or first (1 + i) false ≡ get_or W k false
     value_input k i x Constant is e place within = absurd (no_number x e)
     value_input k i x (Gate l r) is e place within = absurd (no_number x e)
     value_input k i x (Input v) is e place within =
@@ -143,8 +143,8 @@ module _ (nodes : List Node) (names : List ℕ) (outputs : List (OutName × Edge
 
     value_gate : (k : ℕ) (l r : Edge) (before : List Bool) → at h.table k ≡ Some (Gate l r) → get_or before (get_or h.numbers l.place 0) false ≡ get_or W l.place false → get_or before (get_or h.numbers r.place 0) false ≡ get_or W r.place false → circuit.gate_value before (gate_for h.numbers (l, r)) ≡ get_or W k false
     value_gate k l r before is left right =
-        value_ordered before (literal_of h.numbers l) (literal_of h.numbers r) (nat_lt (literal_of h.numbers l) (literal_of h.numbers r)) refl
-        ∙ ap (λ b. b && circuit.literal_value_in before (literal_of h.numbers r)) (value_literal before W h.numbers l left)
+        value_ordered before (edge_literal h.numbers l) (edge_literal h.numbers r) (nat_lt (edge_literal h.numbers l) (edge_literal h.numbers r)) refl
+        ∙ ap (λ b. b && circuit.literal_value_in before (edge_literal h.numbers r)) (value_literal before W h.numbers l left)
         ∙ ap (λ b. edge_value_in W l && b) (value_literal before W h.numbers r right)
         ∙ sym (values_from_operands (dense_assignment names s) nodes k (Gate l r) arena (at_node k (Gate l r) is))
 
@@ -162,7 +162,7 @@ module _ (nodes : List Node) (names : List ℕ) (outputs : List (OutName × Edge
         let e : get_or (cones nodes) k [] ≡ [] = cones_from_operands nodes k Constant arena (at_node k Constant is) in
         subst (λ u. Same names [] u) (sym e) (λ x. (λ m. m, λ m. m))
 
-    cone_input : (k i x : ℕ) (n : Node) → at h.table k ≡ Some n → input_in (Some n) ≡ Some x → slice_get layout.inputs i ≡ Some (get_or names x 0) → x < length names → Same names (get_or first_cones (1 + i) []) (get_or (cones nodes) k [])
+    cone_input : (k i x : ℕ) (n : Node) → at h.table k ≡ Some n → node_variable (Some n) ≡ Some x → slice_get layout.inputs i ≡ Some (get_or names x 0) → x < length names → Same names (get_or first_cones (1 + i) []) (get_or (cones nodes) k [])
     cone_input k i x Constant is e place within = absurd (no_number x e)
     cone_input k i x (Gate l r) is e place within = absurd (no_number x e)
     cone_input k i x (Input v) is e place within =
@@ -176,13 +176,13 @@ module _ (nodes : List Node) (names : List ℕ) (outputs : List (OutName × Edge
 
     cone_gate : (k : ℕ) (l r : Edge) (before : List (List ℕ)) → at h.table k ≡ Some (Gate l r) → Same names (get_or before (get_or h.numbers l.place 0) []) (get_or (cones nodes) l.place []) → Same names (get_or before (get_or h.numbers r.place 0) []) (get_or (cones nodes) r.place []) → Same names (circuit.gate_cone before (gate_for h.numbers (l, r))) (get_or (cones nodes) k [])
     cone_gate k l r before is left right =
-        let a : get_or before (get_or h.numbers l.place 0) [] ≡ get_or before (literal_of h.numbers l / 2) [] = ap (λ i. get_or before i []) (sym (half (get_or h.numbers l.place 0) l.negated)) in
-        let b : get_or before (get_or h.numbers r.place 0) [] ≡ get_or before (literal_of h.numbers r / 2) [] = ap (λ i. get_or before i []) (sym (half (get_or h.numbers r.place 0) r.negated)) in
+        let a : get_or before (get_or h.numbers l.place 0) [] ≡ get_or before (edge_literal h.numbers l / 2) [] = ap (λ i. get_or before i []) (sym (half (get_or h.numbers l.place 0) l.negated)) in
+        let b : get_or before (get_or h.numbers r.place 0) [] ≡ get_or before (edge_literal h.numbers r / 2) [] = ap (λ i. get_or before i []) (sym (half (get_or h.numbers r.place 0) r.negated)) in
         let e : get_or (cones nodes) k [] ≡ cone nodes l ++ cone nodes r = cones_from_operands nodes k (Gate l r) arena (at_node k (Gate l r) is) in
-        let joined : Same names (get_or before (literal_of h.numbers l / 2) [] ++ get_or before (literal_of h.numbers r / 2) []) (cone nodes l ++ cone nodes r) =
-        same_join names (get_or before (literal_of h.numbers l / 2) []) (get_or before (literal_of h.numbers r / 2) []) (cone nodes l) (cone nodes r) (subst (λ c. Same names c (cone nodes l)) a left) (subst (λ c. Same names c (cone nodes r)) b right) in
+        let joined : Same names (get_or before (edge_literal h.numbers l / 2) [] ++ get_or before (edge_literal h.numbers r / 2) []) (cone nodes l ++ cone nodes r) =
+        same_join names (get_or before (edge_literal h.numbers l / 2) []) (get_or before (edge_literal h.numbers r / 2) []) (cone nodes l) (cone nodes r) (subst (λ c. Same names c (cone nodes l)) a left) (subst (λ c. Same names c (cone nodes r)) b right) in
         subst (λ u. Same names (circuit.gate_cone before (gate_for h.numbers (l, r))) u) (sym e)
-        (cone_ordered names before (literal_of h.numbers l) (literal_of h.numbers r) (cone nodes l ++ cone nodes r) (nat_lt (literal_of h.numbers l) (literal_of h.numbers r)) refl joined)
+        (cone_ordered names before (edge_literal h.numbers l) (edge_literal h.numbers r) (cone nodes l ++ cone nodes r) (nat_lt (edge_literal h.numbers l) (edge_literal h.numbers r)) refl joined)
 
     cone_agrees : (k : ℕ) → k < length h.table → is_some (at h.table k) ≡ true → Same names (get_or (circuit.circuit_cones layout.inputs (map to_circuit layout.gates)) (get_or h.numbers k 0) []) (get_or (cones nodes) k [])
     cone_agrees k within some =
@@ -199,8 +199,8 @@ module _ (nodes : List Node) (names : List ℕ) (outputs : List (OutName × Edge
         (h.needed.needed o.1.place place).1 (λ has roots closed. subst (λ (e : Edge). has e.place ≡ true) (edge_at outputs j o read inside o.1) (roots j o.1 (omega (arith, inside, length-map outputs (λ p. p.1))))),
       )
 
-  literal_is : (j : ℕ) (o : OutName × Edge) (l : OutName × ℕ) → slice_get outputs j ≡ Some o → slice_get layout.outputs j ≡ Some l → l.1 ≡ literal_of h.numbers o.1
-  literal_is j o l at_j laid = ap (λ (p : OutName × ℕ). p.1) (one_output l (o.0, literal_of h.numbers o.1) (sym laid ∙ ap (λ ls. slice_get ls j) h.outputs_are ∙ map_at (λ p. (p.0, literal_of h.numbers p.1)) outputs j o at_j))
+  literal_is : (j : ℕ) (o : OutName × Edge) (l : OutName × ℕ) → slice_get outputs j ≡ Some o → slice_get layout.outputs j ≡ Some l → l.1 ≡ edge_literal h.numbers o.1
+  literal_is j o l at_j laid = ap (λ (p : OutName × ℕ). p.1) (one_output l (o.0, edge_literal h.numbers o.1) (sym laid ∙ ap (λ ls. slice_get ls j) h.outputs_are ∙ map_at (λ p. (p.0, edge_literal h.numbers p.1)) outputs j o at_j))
 
   output_cones : ConesFromOperands → All (λ p. p.1.place < length nodes) outputs → (j : ℕ) (o : OutName × Edge) (l : OutName × ℕ) (x : ℕ) → slice_get outputs j ≡ Some o → slice_get layout.outputs j ≡ Some l → (Contains (circuit.circuit_cone (circuit_of layout) l.1) x → Contains (map (λ k. get_or names k 0) (cone nodes o.1)) x) × (Contains (map (λ k. get_or names k 0) (cone nodes o.1)) x → Contains (circuit.circuit_cone (circuit_of layout) l.1) x)
   output_cones from_operands within j o l x at_j laid =

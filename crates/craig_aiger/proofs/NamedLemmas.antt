@@ -11,7 +11,7 @@ use Rattle.craig_aig.specs.Operands.{ConesFromOperands}
 use Rattle.craig_aig.specs.declared.node.Node.{Node}
 use Rattle.craig_aig.specs.declared.node.Node.TheVariants.{Constant, Input, Gate}
 use Rattle.craig_base.specs.declared.variable.Var.{Var}
-use Rattle.craig_aiger.specs.Layouts.{at, input_in, AreNamed, AreNeeded, edges_of}
+use Rattle.craig_aiger.specs.Layouts.{at, node_variable, AreNamed, AreNeeded, edges_of}
 use Rattle.craig_aiger.specs.declared.out_name.OutName.{OutName}
 use Rattle.std.proofs.lemmas.List.{length-map}
 
@@ -58,7 +58,7 @@ same_number x v e = cc
 no_number : (v : ℕ) → None ≡ Some v → ⊥
 no_number v e = cc
 
-pub input_is : (o : Option Node) (v : ℕ) → input_in o ≡ Some v → (x : Var) × (o ≡ Some (Input x)) × (x.0 ≡ v)
+pub input_is : (o : Option Node) (v : ℕ) → node_variable o ≡ Some v → (x : Var) × (o ≡ Some (Input x)) × (x.0 ≡ v)
 input_is None v e = absurd (no_number v e)
 input_is (Some Constant) v e = absurd (no_number v e)
 input_is (Some (Gate l r)) v e = absurd (no_number v e)

@@ -10,7 +10,7 @@ use Rattle.craig_aig.specs.Edges.{Edge}
 use Rattle.craig_aig.specs.Arenas.{IsAig, AreOperands, IsPlaced}
 use Rattle.craig_aig.specs.declared.node.Node.{Node}
 use Rattle.craig_aig.specs.declared.node.Node.TheVariants.{Constant, Input, Gate}
-use Rattle.craig_aiger.specs.Layouts.{at, gate_in, OperandsBelow, edges_of, IsClosed, IsNeeded, IsRooted, AreNeeded}
+use Rattle.craig_aiger.specs.Layouts.{at, node_operands, OperandsBelow, edges_of, HasOperandNodes, IsInCones, IsRooted, AreNeeded}
 
 -- the table has one node more
 abbrev pub IsKept : List Node → List (Option Node) → List (Option Node) → ℕ → Type 0
@@ -43,7 +43,7 @@ module _ (nodes : List Node) (edges : List Edge) (old new : List (Option Node)) 
         | inr is ↦ before k n (sym is ∙ h)
       ]
 
-  pub kept_needed : IsNeeded nodes edges p → ((k : ℕ) → is_some (at old k) ≡ true → IsNeeded nodes edges k) → (k : ℕ) → is_some (at new k) ≡ true → IsNeeded nodes edges k
+  pub kept_needed : IsInCones nodes edges p → ((k : ℕ) → is_some (at old k) ≡ true → IsInCones nodes edges k) → (k : ℕ) → is_some (at new k) ≡ true → IsInCones nodes edges k
   kept_needed here before k h =
       elim (kept_case k p (at new k) (slice_get nodes p) (at old k) (eqb k p) refl (kept k)) [
         | inl same ↦ rw same.0 here
@@ -55,7 +55,7 @@ pub record RootedTo (nodes : List Node) (edges : List Edge) (table : List (Optio
   pub lengths : length table ≡ length nodes
   pub nodes_are : (k : ℕ) (n : Node) → at table k ≡ Some n → slice_get nodes k ≡ Some n
   pub rooted : (j : ℕ) (d : Edge) → j < i → j < length edges → is_some (at table (get_or edges j d).place) ≡ true
-  pub needed : (k : ℕ) → is_some (at table k) ≡ true → IsNeeded nodes edges k
+  pub needed : (k : ℕ) → is_some (at table k) ≡ true → IsInCones nodes edges k
 
 none_some : (o : Option Node) (n : Node) → o ≡ None → o ≡ Some n → ⊥
 none_some o n e h = cc
@@ -101,7 +101,7 @@ pub record Back (nodes : List Node) (edges : List Edge) (table : List (Option No
   pub nodes_are : (k : ℕ) (n : Node) → at table k ≡ Some n → slice_get nodes k ≡ Some n
   pub rooted : All (λ e. is_some (at table e.place) ≡ true) edges
   pub closed : (k : ℕ) (left right : Edge) → place ≤ k → at table k ≡ Some (Gate left right) → (is_some (at table left.place) ≡ true) × (is_some (at table right.place) ≡ true)
-  pub needed : (k : ℕ) → is_some (at table k) ≡ true → IsNeeded nodes edges k
+  pub needed : (k : ℕ) → is_some (at table k) ≡ true → IsInCones nodes edges k
 
 past_table : (table : List (Option Node)) (k : ℕ) (n : Node) → length table ≤ k → at table k ≡ Some n → ⊥
 past_table table k n past h = let e : at table k ≡ None = get_or_past table k None past in cc
@@ -116,7 +116,7 @@ Back-first nodes edges table h = record {
 }
 
 -- a node below the place is kept
-pub Back-keep : (nodes : List Node) (edges : List Edge) (old new : List (Option Node)) (p place : ℕ) → p < length nodes → IsKept nodes old new p → p < place → length new ≡ length old → IsNeeded nodes edges p → Back nodes edges old place → Back nodes edges new place
+pub Back-keep : (nodes : List Node) (edges : List Edge) (old new : List (Option Node)) (p place : ℕ) → p < length nodes → IsKept nodes old new p → p < place → length new ≡ length old → IsInCones nodes edges p → Back nodes edges old place → Back nodes edges new place
 Back-keep nodes edges old new p place within kept below same here h = record {
   lengths = same ∙ h.lengths;
   nodes_are = kept_nodes nodes edges old new p within kept h.nodes_are;
@@ -178,8 +178,8 @@ Back-gate nodes edges old mid new left right place next arena step is kept1 same
     let below : AreOperands place left right = operands_at nodes place left right arena there in
     let l_within : left.place < length nodes = omega (arith, below.below) in
     let r_within : right.place < length nodes = omega (arith, below.below, below.ordered) in
-    let need : IsNeeded nodes edges place = h.needed place (is_some_at (at old place) (Gate left right) is) in
-    let both = λ (has : ℕ → Bool) (roots : All (λ e. has e.place ≡ true) edges) (closed : IsClosed nodes has). closed place left right there (need has roots closed) in
+    let need : IsInCones nodes edges place = h.needed place (is_some_at (at old place) (Gate left right) is) in
+    let both = λ (has : ℕ → Bool) (roots : All (λ e. has e.place ≡ true) edges) (closed : HasOperandNodes nodes has). closed place left right there (need has roots closed) in
     let one : Back nodes edges mid next = Back-keep nodes edges old mid left.place next l_within kept1 (omega (arith, below.below)) same1 (λ has roots closed. (both has roots closed).0) h in
     let two : Back nodes edges new next = Back-keep nodes edges mid new right.place next r_within kept2 (omega (arith, below.below, below.ordered)) same2 (λ has roots closed. (both has roots closed).1) one in
     let now : at new place ≡ Some (Gate left right) = not_here nodes mid new right.place place kept2 (omega (arith, below.below, below.ordered)) ∙ not_here nodes old mid left.place place kept1 below.below ∙ is in
@@ -207,17 +207,17 @@ gate_some o p e f = cc
 gate_pair : (p q : Edge × Edge) → Some p ≡ Some q → p ≡ q
 gate_pair p q e = cc
 
-no_gate : (o : Option Node) (l r : Edge) → gate_in o ≡ None → o ≡ Some (Gate l r) → ⊥
-no_gate o l r e f = gate_some (gate_in o) (l, r) (ap gate_in f) e
+no_gate : (o : Option Node) (l r : Edge) → node_operands o ≡ None → o ≡ Some (Gate l r) → ⊥
+no_gate o l r e f = gate_some (node_operands o) (l, r) (ap node_operands f) e
 
-gate_in_is : (o : Option Node) (l r : Edge) → gate_in o ≡ Some (l, r) → o ≡ Some (Gate l r)
+gate_in_is : (o : Option Node) (l r : Edge) → node_operands o ≡ Some (l, r) → o ≡ Some (Gate l r)
 gate_in_is None l r e = absurd (gate_some None (l, r) e refl)
 gate_in_is (Some Constant) l r e = absurd (gate_some None (l, r) e refl)
 gate_in_is (Some (Input x)) l r e = absurd (gate_some None (l, r) e refl)
 gate_in_is (Some (Gate a b)) l r e = ap (λ (p : Edge × Edge). Some (Gate p.0 p.1)) (gate_pair (a, b) (l, r) e)
 
 -- a gate that is read from the table
-pub gate_read : (table : List (Option Node)) (k : ℕ) (x : Option Node) (l r : Edge) → k < length table → gate_in (get_or table k x) ≡ Some (l, r) → at table k ≡ Some (Gate l r)
+pub gate_read : (table : List (Option Node)) (k : ℕ) (x : Option Node) (l r : Edge) → k < length table → node_operands (get_or table k x) ≡ Some (l, r) → at table k ≡ Some (Gate l r)
 gate_read table k x l r within e = get_or_default table k None x within ∙ gate_in_is (get_or table k x) l r e
 
 pub operands_within : (nodes : List Node) (edges : List Edge) (table : List (Option Node)) (k next : ℕ) (l r : Edge) → IsAig nodes → Back nodes edges table next → at table k ≡ Some (Gate l r) → (l.place < length nodes) × (r.place < length nodes)
@@ -228,7 +228,7 @@ operands_within nodes edges table k next l r arena h is =
     (omega (arith, below.below), omega (arith, below.below, below.ordered))
 
 -- a node that is no gate needs nothing
-pub Back-skip : (nodes : List Node) (edges : List Edge) (table : List (Option Node)) (place next : ℕ) (x : Option Node) → next ≡ place + 1 → place < length table → gate_in (get_or table place x) ≡ None → Back nodes edges table next → Back nodes edges table place
+pub Back-skip : (nodes : List Node) (edges : List Edge) (table : List (Option Node)) (place next : ℕ) (x : Option Node) → next ≡ place + 1 → place < length table → node_operands (get_or table place x) ≡ None → Back nodes edges table next → Back nodes edges table place
 Back-skip nodes edges table place next x step within none h =
     Back-down nodes edges table place next step (λ l r e. absurd (no_gate (get_or table place x) l r none (get_or_default table place x None within ∙ e))) h
 
@@ -242,7 +242,7 @@ pub place_at : (outputs : List (OutName × Edge)) (n i : ℕ) (x : OutName × Ed
 place_at outputs n i x is within h = subst (λ (o : OutName × Edge). o.1.place < n) (sym is) (h i x within)
 
 -- the operands of a gate that is read stand before it
-pub operands_below : (table : List (Option Node)) (k : ℕ) (x : Option Node) (p : Edge × Edge) → OperandsBelow table → k < length table → gate_in (get_or table k x) ≡ Some p → (p.0.place < k) × (p.1.place < k)
+pub operands_below : (table : List (Option Node)) (k : ℕ) (x : Option Node) (p : Edge × Edge) → OperandsBelow table → k < length table → node_operands (get_or table k x) ≡ Some p → (p.0.place < k) × (p.1.place < k)
 operands_below table k x p below within e = below k p.0 p.1 (gate_read table k x p.0 p.1 within e)
 
 pub OperandsBelow-needed : (nodes : List Node) (edges : List Edge) (table : List (Option Node)) → IsAig nodes → AreNeeded nodes edges table → OperandsBelow table

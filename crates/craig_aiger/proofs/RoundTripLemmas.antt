@@ -14,7 +14,8 @@ use Rattle.std.proofs.lemmas.Option.{slice_get_within, get_or_from_slice_get}
 use Rattle.craig_spec.specs.Truth.{variable_value}
 use Rattle.craig_spec.specs.Circuit.{Circuit, Gate, Output, circuit_cone, circuit_value, variable_count}
 use Rattle.craig_spec.specs.AigerReading as reading
-use Rattle.craig_spec.specs.AigerReading.{AigerFile, Counts, Fault, FaultKind, GateLine, RootLine, Symbol, TextLine, Written, all_differ, all_read, by_depth, counts_checked, counts_of, fault, file_by, file_written, header_in, header_of, input_variables, lines_of, moved, moved_gates, name_of, named_output, named_roots, names_of, numbered, numbers_in, read_aag, read_from, variable_in, variables_of, written_in, ◌>>?◌}
+use Rattle.craig_spec.specs.AigerFault.{Fault, FaultKind}
+use Rattle.craig_spec.specs.AigerReading.{AigerFile, Counts, GateLine, RootLine, Symbol, TextLine, Written, all_differ, all_read, by_depth, counts_checked, counts_of, fault, file_by, file_written, header_in, header_of, input_variables, lines_of, moved, moved_gates, name_of, named_output, named_roots, names_of, numbered, numbers_in, read_aag, read_from, variable_in, variables_of, written_in, ◌>>?◌}
 use Rattle.craig_aiger.specs.AsciiText.{aag_text}
 use Rattle.craig_aiger.specs.declared.out_name.OutName.{OutName}
 use Rattle.craig_aiger.specs.Layouts.{IsWritable, Layout, circuit_of}
@@ -76,8 +77,8 @@ header_test i a = grind (arith, nat_tests)
 header_read : (line : TextLine) (i o a : ℕ) → line.bytes ≡ header_bytes i o a → i + a < 10 ^ 18 → o < 10 ^ 18 → header_in line ≡ Ok (counts i o a)
 unfolding header_in
 header_read line i o a bytes few few_outputs =
-    ap (λ (b : List ℕ). if bytes_eq (take 4 b) (codes "aag ") then header_of line.place (numbers_in (drop 4 b)) else fault reading.WrongHeader line.place) bytes
-    ∙ ap (header_of line.place) (five_numbers (i + a) i o a few (omega arith) few_outputs (omega arith)) ∙ (rw (header_test i a) refl)
+    ap (λ (b : List ℕ). if bytes_eq (take 4 b) (codes "aag ") then header_of line.offset (numbers_in (drop 4 b)) else fault FaultKind.Header line.offset) bytes
+    ∙ ap (header_of line.offset) (five_numbers (i + a) i o a few (omega arith) few_outputs (omega arith)) ∙ (rw (header_test i a) refl)
 
 read_through : (end : ℕ) (line : TextLine) (lines : List TextLine) (c : Counts) (w : Written) (f : AigerFile) → header_in line ≡ Ok c → written_in c end lines ≡ Ok w → file_written w ≡ Ok f → read_from end (line ∷ lines) ≡ Ok f
 read_through end line lines c w f header body file = rw (header, body, file) refl
@@ -169,7 +170,7 @@ module _ (l : Layout) (h : IsWritable l) where
 
   -- the file that is read, as a circuit
   file_circuit : (inputs : List ℕ) (outputs : List RootLine) (lines : List GateLine) → inputs ≡ range_with_len 1 (length l.inputs) → literals_of outputs ≡ map (λ (o : OutName × ℕ). o.1) l.outputs → Each (λ (o : OutName × ℕ). numbered (variables_of (written_of inputs outputs lines symbols)) o.1 ≡ o.1) l.outputs →
-      reading.circuit_of (file_by (written_of inputs outputs lines symbols) first gates order) ≡ Some circuit
+      reading.file_circuit (file_by (written_of inputs outputs lines symbols) first gates order) ≡ Some circuit
   file_circuit inputs outputs lines inputs_are outputs_are kept =
       let w : Written = written_of inputs outputs lines symbols in
       let count : length inputs ≡ length l.inputs = ap length inputs_are ∙ length-range_with_len 1 (length l.inputs) in
@@ -181,7 +182,7 @@ module _ (l : Layout) (h : IsWritable l) where
       (each_then (λ (o : OutName × ℕ). numbered (variables_of w) o.1 ≡ o.1) (λ (o : OutName × ℕ). moved first order (numbered (variables_of w) o.1) ≡ moved first order o.1) l.outputs (λ o e. ap (moved first order) e) kept) in
       rw (named, rooted) refl
 
-  body_read : (end : ℕ) (line : TextLine) (lines : List TextLine) → line.bytes ≡ header_bytes (length l.inputs) (length l.outputs) (length l.gates) → bytes_of lines ≡ body_lines l → (f : AigerFile) × (read_from end (line ∷ lines) ≡ Ok f) × (reading.circuit_of f ≡ Some circuit)
+  body_read : (end : ℕ) (line : TextLine) (lines : List TextLine) → line.bytes ≡ header_bytes (length l.inputs) (length l.outputs) (length l.gates) → bytes_of lines ≡ body_lines l → (f : AigerFile) × (read_from end (line ∷ lines) ≡ Ok f) × (reading.file_circuit f ≡ Some circuit)
   body_read end line lines header body =
       let s : Said l end lines = said l h end lines (record { family = None; cut = 0 }, 0) body in
       let gates_are : map to_gate (operands_of s.gates) ≡ gates = ap (map to_gate) s.operands_are in
@@ -201,7 +202,7 @@ module _ (l : Layout) (h : IsWritable l) where
         file_circuit s.inputs s.outputs s.gates s.inputs_are s.outputs_are kept,
       )
 
-  all_lines : (end : ℕ) (lines : List TextLine) → bytes_of lines ≡ text_lines l → (f : AigerFile) × (read_from end lines ≡ Ok f) × (reading.circuit_of f ≡ Some circuit)
+  all_lines : (end : ℕ) (lines : List TextLine) → bytes_of lines ≡ text_lines l → (f : AigerFile) × (read_from end lines ≡ Ok f) × (reading.file_circuit f ≡ Some circuit)
   all_lines end [] e = absurd cc
   all_lines end (line ∷ lines) e =
       let first_line : line.bytes ≡ header_bytes (length l.inputs) (length l.outputs) (length l.gates) = cc in
@@ -210,7 +211,7 @@ module _ (l : Layout) (h : IsWritable l) where
 
   -- what is written is read back
   pub reads_as : ReadsAs l (aag_text l)
-  unfolding read_aag reading.reading
+  unfolding read_aag reading.aiger_reading
   reads_as =
       let bytes : bytes_of (lines_of (aag_text l)) ≡ text_lines l = ap (λ t. bytes_of (lines_of t)) (aag_text-lines l) ∙ bytes-lines_of (text_lines l) (text_lines-lines l h) in
       let f = all_lines (length (aag_text l)) (lines_of (aag_text l)) bytes in

@@ -16,7 +16,7 @@ use Rattle.craig_aig.specs.declared.node.Node.{Node}
 use Rattle.craig_aig.specs.declared.node.Node.TheVariants.{Constant, Input, Gate}
 use Rattle.craig_base.specs.declared.variable.Var.{Var}
 use Rattle.craig_aiger.specs.declared.out_name.OutName.{OutName}
-use Rattle.craig_aiger.specs.Layouts.{Layout, circuit_of, at, edges_of, gate_in, gate_of, input_in, ordered, literal_of, IsClosed, IsLayout, IsNumber}
+use Rattle.craig_aiger.specs.Layouts.{Layout, circuit_of, at, edges_of, node_operands, gate_literals, node_variable, ordered, edge_literal, HasOperandNodes, IsLayout, IsNumber}
 use Rattle.craig_aiger.specs.OutNames.{name_text}
 use Rattle.craig_aiger.proofs.NamedLemmas.{input_is, is_some_of}
 use Rattle.craig_aiger.proofs.NeededLemmas.{gate_read, operands_at}
@@ -130,7 +130,7 @@ module _ (nodes : List Node) (names : List ℕ) (outputs : List (OutName × Edge
   one_node j k n p q =
       one_place nodes Constant j k arena.distinct (slice_get_within nodes j n (h.needed.nodes_are j n p)) (slice_get_within nodes k n (h.needed.nodes_are k n q)) (node_is j n p ∙ sym (node_is k n q))
 
-  one_gate : (j k : ℕ) (l r m s : Edge) → at h.table j ≡ Some (Gate l r) → at h.table k ≡ Some (Gate m s) → length (filter_map gate_in (take j h.table)) ≡ length (filter_map gate_in (take k h.table)) → j ≡ k
+  one_gate : (j k : ℕ) (l r m s : Edge) → at h.table j ≡ Some (Gate l r) → at h.table k ≡ Some (Gate m s) → length (filter_map node_operands (take j h.table)) ≡ length (filter_map node_operands (take k h.table)) → j ≡ k
   one_gate j k l r m s p q e =
       elim (dec_lt j k) [
         | Prim.yes less ↦ absurd (omega (arith, e, gate_counts h.table j k l r less (omega (arith, within_table k (Gate m s) q)) p))
@@ -166,7 +166,7 @@ module _ (nodes : List Node) (names : List ℕ) (outputs : List (OutName × Edge
         numbers_apart j k n.0 o.0 (get_or h.numbers k 0) n.1 o.1 low high (subst (Numbered j n.0) e (own_number j n.0 n.1)) (own_number k o.0 o.1)
 
     -- two needed edges of one literal
-    one_edge : (e f : Edge) → is_some (at h.table e.place) ≡ true → is_some (at h.table f.place) ≡ true → 0 < e.place → 0 < f.place → literal_of h.numbers e ≡ literal_of h.numbers f → e ≡ f
+    one_edge : (e f : Edge) → is_some (at h.table e.place) ≡ true → is_some (at h.table f.place) ≡ true → 0 < e.place → 0 < f.place → edge_literal h.numbers e ≡ edge_literal h.numbers f → e ≡ f
     one_edge e f some other low high same =
         let parts = same_literal (get_or h.numbers e.place 0) (get_or h.numbers f.place 0) e.negated f.negated same in
         same_edge e f (same_place e.place f.place some other low high parts.0) parts.1
@@ -177,8 +177,8 @@ module _ (nodes : List Node) (names : List ℕ) (outputs : List (OutName × Edge
     left : Edge
     right : Edge
     there : at h.table place ≡ Some (Gate left right)
-    before : length (filter_map gate_in (take place h.table)) ≡ j
-    is : g ≡ gate_of h.numbers (left, right)
+    before : length (filter_map node_operands (take place h.table)) ≡ j
+    is : g ≡ gate_literals h.numbers (left, right)
     operands : AreOperands place left right
     below : (g.1 ≤ g.0) × (g.0 < 2 * (1 + length layout.inputs + j))
     kept_left : is_some (at h.table left.place) ≡ true
@@ -186,9 +186,9 @@ module _ (nodes : List Node) (names : List ℕ) (outputs : List (OutName × Edge
 
   gate_node : (j : ℕ) (g : ℕ × ℕ) → slice_get layout.gates j ≡ Some g → GateNode j g
   gate_node j g is =
-      let at_map : slice_get (map (gate_of h.numbers) (filter_map gate_in h.table)) j ≡ Some g = sym (ap (λ gs. slice_get gs j) h.gates_are) ∙ is in
-      let p = mapped (gate_of h.numbers) (filter_map gate_in h.table) j g at_map in
-      let f : From gate_in h.table j p.0 None = from gate_in h.table j p.0 None p.1 in
+      let at_map : slice_get (map (gate_literals h.numbers) (filter_map node_operands h.table)) j ≡ Some g = sym (ap (λ gs. slice_get gs j) h.gates_are) ∙ is in
+      let p = mapped (gate_literals h.numbers) (filter_map node_operands h.table) j g at_map in
+      let f : From node_operands h.table j p.0 None = from node_operands h.table j p.0 None p.1 in
       let there : at h.table f.place ≡ Some (Gate p.0.0 p.0.1) = gate_read h.table f.place None p.0.0 p.0.1 f.within f.gives in
       let k = kept nodes names outputs layout arena h f.place p.0.0 p.0.1 there in
       record {
@@ -213,13 +213,13 @@ module _ (nodes : List Node) (names : List ℕ) (outputs : List (OutName × Edge
     strict_operands j g is =
         let c = circuit_gate j g is in
         let n : GateNode j c.0 = c.1 in
-        let gate_is : g ≡ to_circuit (gate_of h.numbers (n.left, n.right)) = c.2 ∙ ap to_circuit n.is in
+        let gate_is : g ≡ to_circuit (gate_literals h.numbers (n.left, n.right)) = c.2 ∙ ap to_circuit n.is in
         let low : 0 < n.right.place = n.operands.not_constant in
         let high : 0 < n.left.place = omega (arith, low, n.operands.ordered) in
         let differ : get_or h.numbers n.left.place 0 ≢ get_or h.numbers n.right.place 0 = λ same.
         let e : n.left.place ≡ n.right.place = same_place distinct n.left.place n.right.place n.kept_left n.kept_right high low same in
         omega (arith, e, n.operands.ordered) in
-        let apart = ordered_variables (literal_of h.numbers n.left) (literal_of h.numbers n.right) (get_or h.numbers n.left.place 0) (get_or h.numbers n.right.place 0) (nat_lt (literal_of h.numbers n.left) (literal_of h.numbers n.right)) refl
+        let apart = ordered_variables (edge_literal h.numbers n.left) (edge_literal h.numbers n.right) (get_or h.numbers n.left.place 0) (get_or h.numbers n.right.place 0) (nat_lt (edge_literal h.numbers n.left) (edge_literal h.numbers n.right)) refl
         (half (get_or h.numbers n.left.place 0) n.left.negated) (half (get_or h.numbers n.right.place 0) n.right.negated) (some_positive n.left.place n.kept_left high) (some_positive n.right.place n.kept_right low) differ in
         let left_is : g.left ≡ c.0.0 = ap (λ (k : circuit.Gate). k.left) c.2 in
         let parts : (1 ≤ g.right / 2) × (g.right / 2 < g.left / 2) = rw gate_is apart in
@@ -228,19 +228,19 @@ module _ (nodes : List Node) (names : List ℕ) (outputs : List (OutName × Edge
     -- the same gate is of the same node
     one_gate_node : (i j : ℕ) (p q : ℕ × ℕ) → GateNode i p → GateNode j q → to_circuit p ≡ to_circuit q → i ≡ j
     one_gate_node i j p q m n same =
-        let literals : to_circuit (gate_of h.numbers (m.left, m.right)) ≡ to_circuit (gate_of h.numbers (n.left, n.right)) = ap to_circuit (sym m.is) ∙ same ∙ ap to_circuit n.is in
+        let literals : to_circuit (gate_literals h.numbers (m.left, m.right)) ≡ to_circuit (gate_literals h.numbers (n.left, n.right)) = ap to_circuit (sym m.is) ∙ same ∙ ap to_circuit n.is in
         let low : 0 < m.right.place = m.operands.not_constant in
         let low' : 0 < n.right.place = n.operands.not_constant in
         let high : 0 < m.left.place = omega (arith, low, m.operands.ordered) in
         let high' : 0 < n.left.place = omega (arith, low', n.operands.ordered) in
-        let cases = same_operands (literal_of h.numbers m.left) (literal_of h.numbers m.right) (literal_of h.numbers n.left) (literal_of h.numbers n.right)
-        (nat_lt (literal_of h.numbers m.left) (literal_of h.numbers m.right)) (nat_lt (literal_of h.numbers n.left) (literal_of h.numbers n.right)) refl refl literals in
+        let cases = same_operands (edge_literal h.numbers m.left) (edge_literal h.numbers m.right) (edge_literal h.numbers n.left) (edge_literal h.numbers n.right)
+        (nat_lt (edge_literal h.numbers m.left) (edge_literal h.numbers m.right)) (nat_lt (edge_literal h.numbers n.left) (edge_literal h.numbers n.right)) refl refl literals in
         elim cases [
           | inl straight ↦
               (let l : m.left ≡ n.left = one_edge distinct m.left n.left m.kept_left n.kept_left high high' straight.0 in
               let r : m.right ≡ n.right = one_edge distinct m.right n.right m.kept_right n.kept_right low low' straight.1 in
               let place : m.place ≡ n.place = one_node m.place n.place (Gate n.left n.right) (m.there ∙ ap (λ g. Some g) (same_gate m.left m.right n.left n.right l r)) n.there in
-              sym m.before ∙ ap (λ k. length (filter_map gate_in (take k h.table))) place ∙ n.before)
+              sym m.before ∙ ap (λ k. length (filter_map node_operands (take k h.table))) place ∙ n.before)
           | inr crossed ↦
               (let l : m.left ≡ n.right = one_edge distinct m.left n.right m.kept_left n.kept_right high low' crossed.0 in
               let r : m.right ≡ n.left = one_edge distinct m.right n.left m.kept_right n.kept_left low high' crossed.1 in
@@ -255,17 +255,17 @@ module _ (nodes : List Node) (names : List ℕ) (outputs : List (OutName × Edge
         omega (arith, e, less)
 
   -- the gate of a node
-  laid_gate : (k : ℕ) (l r : Edge) → at h.table k ≡ Some (Gate l r) → slice_get (map to_circuit layout.gates) (length (filter_map gate_in (take k h.table))) ≡ Some (to_circuit (gate_of h.numbers (l, r)))
+  laid_gate : (k : ℕ) (l r : Edge) → at h.table k ≡ Some (Gate l r) → slice_get (map to_circuit layout.gates) (length (filter_map node_operands (take k h.table))) ≡ Some (to_circuit (gate_literals h.numbers (l, r)))
   laid_gate k l r is =
-      let front : List (Edge × Edge) = filter_map gate_in (take k h.table) in
-      let back : List (Edge × Edge) = filter_map gate_in (drop (suc k) h.table) in
+      let front : List (Edge × Edge) = filter_map node_operands (take k h.table) in
+      let back : List (Edge × Edge) = filter_map node_operands (drop (suc k) h.table) in
       let there : slice_get (front ++ (l, r) ∷ back) (length front) ≡ Some (l, r) = slice_get_after front (l, r) back in
-      let here : slice_get (filter_map gate_in h.table) (length front) ≡ Some (l, r) = ap (λ ps. slice_get ps (length front)) (gates_around h.table k l r (within_table k (Gate l r) is) is) ∙ there in
-      let gate_here : slice_get layout.gates (length front) ≡ Some (gate_of h.numbers (l, r)) = ap (λ gs. slice_get gs (length front)) h.gates_are ∙ map_at (gate_of h.numbers) (filter_map gate_in h.table) (length front) (l, r) here in
-      map_at to_circuit layout.gates (length front) (gate_of h.numbers (l, r)) gate_here
+      let here : slice_get (filter_map node_operands h.table) (length front) ≡ Some (l, r) = ap (λ ps. slice_get ps (length front)) (gates_around h.table k l r (within_table k (Gate l r) is) is) ∙ there in
+      let gate_here : slice_get layout.gates (length front) ≡ Some (gate_literals h.numbers (l, r)) = ap (λ gs. slice_get gs (length front)) h.gates_are ∙ map_at (gate_literals h.numbers) (filter_map node_operands h.table) (length front) (l, r) here in
+      map_at to_circuit layout.gates (length front) (gate_literals h.numbers (l, r)) gate_here
 
   module _ (within : All (λ p. p.1.place < length nodes) outputs) where
-    module _ (has : ℕ → Bool) (roots : All (λ o. has (o.literal / 2) ≡ true) (circuit_of layout).outputs) (closed : circuit.IsClosed (circuit_of layout) has) where
+    module _ (has : ℕ → Bool) (roots : All (λ o. has (o.literal / 2) ≡ true) (circuit_of layout).outputs) (closed : circuit.HasOperands (circuit_of layout) has) where
       -- the nodes of the table whose variables the set has
       abbrev kept_in : ℕ → Bool
       kept_in k = is_some (at h.table k) && has (get_or h.numbers k 0)
@@ -273,8 +273,8 @@ module _ (nodes : List Node) (names : List ℕ) (outputs : List (OutName × Edge
       root_kept : (j : ℕ) (o : OutName × Edge) → slice_get outputs j ≡ Some o → kept_in o.1.place ≡ true
       root_kept j o is =
           let n = output_needed nodes names outputs layout arena h j o within is in
-          let laid : slice_get layout.outputs j ≡ Some (o.0, literal_of h.numbers o.1) = ap (λ ls. slice_get ls j) h.outputs_are ∙ map_at (λ (p : OutName × Edge). (p.0, literal_of h.numbers p.1)) outputs j o is in
-          let root : has (literal_of h.numbers o.1 / 2) ≡ true = output_has (λ (l : ℕ). has (l / 2) ≡ true) layout.outputs j (o.0, literal_of h.numbers o.1) laid roots in
+          let laid : slice_get layout.outputs j ≡ Some (o.0, edge_literal h.numbers o.1) = ap (λ ls. slice_get ls j) h.outputs_are ∙ map_at (λ (p : OutName × Edge). (p.0, edge_literal h.numbers p.1)) outputs j o is in
+          let root : has (edge_literal h.numbers o.1 / 2) ≡ true = output_has (λ (l : ℕ). has (l / 2) ≡ true) layout.outputs j (o.0, edge_literal h.numbers o.1) laid roots in
           both_of (is_some (at h.table o.1.place)) (has (get_or h.numbers o.1.place 0)) n.1 (subst (λ v. has v ≡ true) (half (get_or h.numbers o.1.place 0) o.1.negated) root)
 
       roots_kept : All (λ (e : Edge). kept_in e.place ≡ true) (edges_of outputs)
@@ -284,17 +284,17 @@ module _ (nodes : List Node) (names : List ℕ) (outputs : List (OutName × Edge
           let edge : get_or (edges_of outputs) j d ≡ (get_or outputs j e).1 = get_or-map (λ (o : OutName × Edge). o.1) outputs j e in
           subst (λ (x : Edge). kept_in x.place ≡ true) (sym edge) (root_kept j (get_or outputs j e) (slice_get-get_or outputs j e inside'))
 
-      closed_kept : IsClosed nodes kept_in
+      closed_kept : HasOperandNodes nodes kept_in
       closed_kept k l r is both =
           let parts = both_parts (is_some (at h.table k)) (has (get_or h.numbers k 0)) both in
           let n = some_node (at h.table k) parts.0 in
           let node : n.0 ≡ Gate l r = one_some n.0 (Gate l r) (sym (h.needed.nodes_are k n.0 n.1) ∙ is) in
           let there : at h.table k ≡ Some (Gate l r) = n.1 ∙ ap (λ m. Some m) node in
           let below = kept nodes names outputs layout arena h k l r there in
-          let count : ℕ = length (filter_map gate_in (take k h.table)) in
+          let count : ℕ = length (filter_map node_operands (take k h.table)) in
           let own : get_or h.numbers k 0 ≡ 1 + length layout.inputs + count = own_number k (Gate l r) there in
-          let operands = closed count (to_circuit (gate_of h.numbers (l, r))) (laid_gate k l r there) (subst (λ v. has v ≡ true) own parts.1) in
-          let halves = either_order (λ v. has (v / 2) ≡ true) (literal_of h.numbers l) (literal_of h.numbers r) (nat_lt (literal_of h.numbers l) (literal_of h.numbers r)) refl operands in (
+          let operands = closed count (to_circuit (gate_literals h.numbers (l, r))) (laid_gate k l r there) (subst (λ v. has v ≡ true) own parts.1) in
+          let halves = either_order (λ v. has (v / 2) ≡ true) (edge_literal h.numbers l) (edge_literal h.numbers r) (nat_lt (edge_literal h.numbers l) (edge_literal h.numbers r)) refl operands in (
             both_of (is_some (at h.table l.place)) (has (get_or h.numbers l.place 0)) below.2 (subst (λ v. has v ≡ true) (half (get_or h.numbers l.place 0) l.negated) halves.0),
             both_of (is_some (at h.table r.place)) (has (get_or h.numbers r.place 0)) below.3 (subst (λ v. has v ≡ true) (half (get_or h.numbers r.place 0) r.negated) halves.1),
           )
@@ -310,7 +310,7 @@ module _ (nodes : List Node) (names : List ℕ) (outputs : List (OutName × Edge
     input_reached : (i : ℕ) → i < length layout.inputs → circuit.IsReached (circuit_of layout) (1 + i)
     input_reached i inside =
         let x : ℕ = get_or layout.inputs i 0 in
-        let m = member_of_map (λ k. get_or names k 0) (filter_map input_in h.table) x ((h.inputs_are x).0 (i, inside, get_or_default layout.inputs i x 0 inside)) in
+        let m = member_of_map (λ k. get_or names k 0) (filter_map node_variable h.table) x ((h.inputs_are x).0 (i, inside, get_or_default layout.inputs i x 0 inside)) in
         let g : Given h.table m.0 = given h.table m.0 m.1 in
         let n = input_is (at h.table g.place) m.0 g.gives in
         let own = own_number g.place (Input n.0) n.1 in

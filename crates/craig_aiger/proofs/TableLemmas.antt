@@ -18,7 +18,7 @@ use Rattle.std.proofs.lemmas.Option.{get_or_from_slice_get, slice_get_within}
 use Rattle.craig_aig.specs.Edges.{Edge}
 use Rattle.craig_aig.specs.declared.node.Node.{Node}
 use Rattle.craig_aig.specs.declared.node.Node.TheVariants.{Constant, Input, Gate}
-use Rattle.craig_aiger.specs.Layouts.{at, input_in, gate_in, AreNamed, IsNumber, IsNumbering}
+use Rattle.craig_aiger.specs.Layouts.{at, node_variable, node_operands, AreNamed, IsNumber, IsNumbering}
 
 -- one more
 pub filter_map-more : {X Y : Type 0} (h : X → Option Y) (xs : List X) (i : ℕ) (x : X) → i < length xs → filter_map h (take (i + 1) xs) ≡ filter_map h (take i xs) ++ cons_option (h (get_or xs i x)) []
@@ -37,8 +37,8 @@ pub filter_map-none : {X Y : Type 0} (h : X → Option Y) (xs : List X) (i : ℕ
 filter_map-none h xs i x within e = filter_map-more h xs i x within ∙ ap (λ o. filter_map h (take i xs) ++ cons_option o []) e ∙ append_nil (filter_map h (take i xs))
 
 -- an input that is read from the table
-pub named_at : (names : List ℕ) (table : List (Option Node)) (k : ℕ) (x : Option Node) (v : ℕ) → AreNamed names table → k < length table → input_in (get_or table k x) ≡ Some v → v < length names
-named_at names table k x v h within e = h k v (ap input_in (get_or_default table k None x within) ∙ e)
+pub named_at : (names : List ℕ) (table : List (Option Node)) (k : ℕ) (x : Option Node) (v : ℕ) → AreNamed names table → k < length table → node_variable (get_or table k x) ≡ Some v → v < length names
+named_at names table k x v h within e = h k v (ap node_variable (get_or_default table k None x within) ∙ e)
 
 -- where the numbers rise, so do those further apart
 rises_by : (xs : List ℕ) → IsStrictlyIncreasing xs → (i d : ℕ) → i + d < length xs → get_or xs i 0 ≤ get_or xs (i + d) 0
@@ -80,7 +80,7 @@ none_some : {A : Type 0} (x : A) → None ≡ Some x → ⊥
 none_some x e = cc
 
 -- the numbers of the three kinds of nodes
-pub numbered_input : (names inputs : List ℕ) (before : List (Option Node)) (n : Option Node) (v m name : ℕ) → input_in n ≡ Some v → slice_get names v ≡ Some name → v < length names →
+pub numbered_input : (names inputs : List ℕ) (before : List (Option Node)) (n : Option Node) (v m name : ℕ) → node_variable n ≡ Some v → slice_get names v ≡ Some name → v < length names →
     ((i : ℕ) × (m ≡ 1 + i) × (slice_get inputs i ≡ Some name)) → IsNumber names inputs before n m
 numbered_input names inputs before None v m name e at within place = absurd (none_some v e)
 numbered_input names inputs before (Some Constant) v m name e at within place = absurd (none_some v e)
@@ -90,13 +90,13 @@ numbered_input names inputs before (Some (Input x)) v m name e at within place =
     let named : get_or names v 0 ≡ name = get_or_from_slice_get names v name 0 at in
     (place.0, place.1, place.2 ∙ ap Some (sym (ap (λ k. get_or names k 0) same ∙ named)), omega (arith, same, within))
 
-pub numbered_gate : (names inputs : List ℕ) (before : List (Option Node)) (n : Option Node) (p : Edge × Edge) (m : ℕ) → gate_in n ≡ Some p → m ≡ 1 + length inputs + length (filter_map gate_in before) → IsNumber names inputs before n m
+pub numbered_gate : (names inputs : List ℕ) (before : List (Option Node)) (n : Option Node) (p : Edge × Edge) (m : ℕ) → node_operands n ≡ Some p → m ≡ 1 + length inputs + length (filter_map node_operands before) → IsNumber names inputs before n m
 numbered_gate names inputs before None p m e is = absurd (none_some p e)
 numbered_gate names inputs before (Some Constant) p m e is = absurd (none_some p e)
 numbered_gate names inputs before (Some (Input x)) p m e is = absurd (none_some p e)
 numbered_gate names inputs before (Some (Gate l r)) p m e is = is
 
-pub numbered_other : (names inputs : List ℕ) (before : List (Option Node)) (n : Option Node) → input_in n ≡ None → gate_in n ≡ None → IsNumber names inputs before n 0
+pub numbered_other : (names inputs : List ℕ) (before : List (Option Node)) (n : Option Node) → node_variable n ≡ None → node_operands n ≡ None → IsNumber names inputs before n 0
 numbered_other names inputs before None e f = tt
 numbered_other names inputs before (Some Constant) e f = refl
 numbered_other names inputs before (Some (Input x)) e f = absurd (none_some x.0 (sym e))
@@ -144,13 +144,13 @@ one_gate None = omega arith
 one_gate (Some p) = omega arith
 
 -- one node more is at most one gate more
-pub gates_more : (table : List (Option Node)) (i : ℕ) (x : Option Node) → x ≡ get_or table i x → i < length table → length (filter_map gate_in (take (i + 1) table)) ≡ length (filter_map gate_in (take i table)) + length (filter_map gate_in (x ∷ []))
+pub gates_more : (table : List (Option Node)) (i : ℕ) (x : Option Node) → x ≡ get_or table i x → i < length table → length (filter_map node_operands (take (i + 1) table)) ≡ length (filter_map node_operands (take i table)) + length (filter_map node_operands (x ∷ []))
 gates_more table i x read within =
-    ap length (filter_map-more gate_in table i x within) ∙ length-append (filter_map gate_in (take i table)) (cons_option (gate_in (get_or table i x)) [])
-    ∙ ap (λ o. length (filter_map gate_in (take i table)) + length (cons_option (gate_in o) [])) (sym read)
+    ap length (filter_map-more node_operands table i x within) ∙ length-append (filter_map node_operands (take i table)) (cons_option (node_operands (get_or table i x)) [])
+    ∙ ap (λ o. length (filter_map node_operands (take i table)) + length (cons_option (node_operands o) [])) (sym read)
 
-pub one_node : (x : Option Node) → length (filter_map gate_in (x ∷ [])) ≤ 1
-one_node x = one_gate (gate_in x)
+pub one_node : (x : Option Node) → length (filter_map node_operands (x ∷ [])) ≤ 1
+one_node x = one_gate (node_operands x)
 
 -- what the table has at a place is among what it has
 contains_here : (o : Option ℕ) (rest : List ℕ) (v : ℕ) → o ≡ Some v → Contains (cons_option o rest) v
@@ -161,40 +161,40 @@ contains_later : (o : Option ℕ) (rest : List ℕ) (v : ℕ) → Contains rest 
 contains_later None rest v h = h
 contains_later (Some x) rest v (k, within, is) = (suc k, omega arith, is)
 
-contains_input : (table : List (Option Node)) (i v : ℕ) (x : Option Node) → i < length table → input_in (get_or table i x) ≡ Some v → Contains (filter_map input_in table) v
+contains_input : (table : List (Option Node)) (i v : ℕ) (x : Option Node) → i < length table → node_variable (get_or table i x) ≡ Some v → Contains (filter_map node_variable table) v
 contains_input [] i v x within e = absurd (omega arith)
-contains_input (n ∷ table) zero v x within e = contains_here (input_in n) (filter_map input_in table) v e
-contains_input (n ∷ table) (suc i) v x within e = contains_later (input_in n) (filter_map input_in table) v (contains_input table i v x (omega arith) e)
+contains_input (n ∷ table) zero v x within e = contains_here (node_variable n) (filter_map node_variable table) v e
+contains_input (n ∷ table) (suc i) v x within e = contains_later (node_variable n) (filter_map node_variable table) v (contains_input table i v x (omega arith) e)
 
 contains_map : (f : ℕ → ℕ) (xs : List ℕ) (v : ℕ) → Contains xs v → Contains (map f xs) (f v)
 contains_map f [] v (k, within, is) = absurd (omega arith)
 contains_map f (x ∷ xs) v (zero, within, is) = (0, omega arith, ap f is)
 contains_map f (x ∷ xs) v (suc k, within, is) = let p = contains_map f xs v (k, omega arith, is) in (suc p.0, omega (arith, p.1), p.2)
 
-pub named_input : (names inputs : List ℕ) (table : List (Option Node)) (i v : ℕ) (x : Option Node) → AreNamed names table → ((y : ℕ) → Contains (map (λ k. get_or names k 0) (filter_map input_in table)) y → Contains inputs y) → x ≡ get_or table i x → i < length table → input_in x ≡ Some v → (v < length names) × Contains inputs (get_or names v 0)
+pub named_input : (names inputs : List ℕ) (table : List (Option Node)) (i v : ℕ) (x : Option Node) → AreNamed names table → ((y : ℕ) → Contains (map (λ k. get_or names k 0) (filter_map node_variable table)) y → Contains inputs y) → x ≡ get_or table i x → i < length table → node_variable x ≡ Some v → (v < length names) × Contains inputs (get_or names v 0)
 named_input names inputs table i v x named there read within e =
-    let at_i : input_in (get_or table i x) ≡ Some v = ap input_in (sym read) ∙ e in
-    (named_at names table i x v named within at_i, there (get_or names v 0) (contains_map (λ k. get_or names k 0) (filter_map input_in table) v (contains_input table i v x within at_i)))
+    let at_i : node_variable (get_or table i x) ≡ Some v = ap node_variable (sym read) ∙ e in
+    (named_at names table i x v named within at_i, there (get_or names v 0) (contains_map (λ k. get_or names k 0) (filter_map node_variable table) v (contains_input table i v x within at_i)))
 
 -- the names of one input more
-pub names-some : (names : List ℕ) (table : List (Option Node)) (k : ℕ) (x : Option Node) (v name : ℕ) → k < length table → input_in (get_or table k x) ≡ Some v → slice_get names v ≡ Some name →
-    map (λ i. get_or names i 0) (filter_map input_in (take (k + 1) table)) ≡ map (λ i. get_or names i 0) (filter_map input_in (take k table)) ++ name ∷ []
+pub names-some : (names : List ℕ) (table : List (Option Node)) (k : ℕ) (x : Option Node) (v name : ℕ) → k < length table → node_variable (get_or table k x) ≡ Some v → slice_get names v ≡ Some name →
+    map (λ i. get_or names i 0) (filter_map node_variable (take (k + 1) table)) ≡ map (λ i. get_or names i 0) (filter_map node_variable (take k table)) ++ name ∷ []
 names-some names table k x v name within e at =
-    ap (map (λ i. get_or names i 0)) (filter_map-some input_in table k x v within e) ∙ map-append (λ i. get_or names i 0) (filter_map input_in (take k table)) (v ∷ [])
-    ∙ ap (λ z. map (λ i. get_or names i 0) (filter_map input_in (take k table)) ++ z ∷ []) (get_or_from_slice_get names v name 0 at)
+    ap (map (λ i. get_or names i 0)) (filter_map-some node_variable table k x v within e) ∙ map-append (λ i. get_or names i 0) (filter_map node_variable (take k table)) (v ∷ [])
+    ∙ ap (λ z. map (λ i. get_or names i 0) (filter_map node_variable (take k table)) ++ z ∷ []) (get_or_from_slice_get names v name 0 at)
 
-pub names-none : (names : List ℕ) (table : List (Option Node)) (k : ℕ) (x : Option Node) → k < length table → input_in (get_or table k x) ≡ None →
-    map (λ i. get_or names i 0) (filter_map input_in (take (k + 1) table)) ≡ map (λ i. get_or names i 0) (filter_map input_in (take k table))
-names-none names table k x within e = ap (map (λ i. get_or names i 0)) (filter_map-none input_in table k x within e)
+pub names-none : (names : List ℕ) (table : List (Option Node)) (k : ℕ) (x : Option Node) → k < length table → node_variable (get_or table k x) ≡ None →
+    map (λ i. get_or names i 0) (filter_map node_variable (take (k + 1) table)) ≡ map (λ i. get_or names i 0) (filter_map node_variable (take k table))
+names-none names table k x within e = ap (map (λ i. get_or names i 0)) (filter_map-none node_variable table k x within e)
 
 -- one gate more
-pub gates-some : {G : Type 0} (f : (Edge × Edge) → G) (table : List (Option Node)) (k : ℕ) (x : Option Node) (p : Edge × Edge) → k < length table → gate_in (get_or table k x) ≡ Some p →
-    map f (filter_map gate_in (take (k + 1) table)) ≡ map f (filter_map gate_in (take k table)) ++ f p ∷ []
-gates-some f table k x p within e = ap (map f) (filter_map-some gate_in table k x p within e) ∙ map-append f (filter_map gate_in (take k table)) (p ∷ [])
+pub gates-some : {G : Type 0} (f : (Edge × Edge) → G) (table : List (Option Node)) (k : ℕ) (x : Option Node) (p : Edge × Edge) → k < length table → node_operands (get_or table k x) ≡ Some p →
+    map f (filter_map node_operands (take (k + 1) table)) ≡ map f (filter_map node_operands (take k table)) ++ f p ∷ []
+gates-some f table k x p within e = ap (map f) (filter_map-some node_operands table k x p within e) ∙ map-append f (filter_map node_operands (take k table)) (p ∷ [])
 
-pub gates-none : {G : Type 0} (f : (Edge × Edge) → G) (table : List (Option Node)) (k : ℕ) (x : Option Node) → k < length table → gate_in (get_or table k x) ≡ None →
-    map f (filter_map gate_in (take (k + 1) table)) ≡ map f (filter_map gate_in (take k table))
-gates-none f table k x within e = ap (map f) (filter_map-none gate_in table k x within e)
+pub gates-none : {G : Type 0} (f : (Edge × Edge) → G) (table : List (Option Node)) (k : ℕ) (x : Option Node) → k < length table → node_operands (get_or table k x) ≡ None →
+    map f (filter_map node_operands (take (k + 1) table)) ≡ map f (filter_map node_operands (take k table))
+gates-none f table k x within e = ap (map f) (filter_map-none node_operands table k x within e)
 
 -- what holds of each of a list holds of each of a list whose members are all among them
 pub All-from_members : (P : ℕ → Type 0) (xs ys : List ℕ) → ((x : ℕ) → Contains ys x → Contains xs x) → All P xs → All P ys

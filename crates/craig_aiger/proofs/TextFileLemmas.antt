@@ -95,8 +95,8 @@ module _ (inputs : List ℕ) (outputs : List RootLine) (lines : List GateLine) (
 
   undefined_none : first_undefined w ≡ None
   undefined_none =
-      ap (λ r. option_map (λ (u : Use). u.place) (find (uses_other r) (uses_of w))) variables
-      ∙ ap (option_map (λ (u : Use). u.place)) (no_root (1 + many + count) outputs (map gate_use lines) roots_within ∙ no_gate (1 + many + count) lines gates_within)
+      ap (λ r. option_map (λ (u : Use). u.offset) (find (uses_other r) (uses_of w))) variables
+      ∙ ap (option_map (λ (u : Use). u.offset)) (no_root (1 + many + count) outputs (map gate_use lines) roots_within ∙ no_gate (1 + many + count) lines gates_within)
 
   gates_are : numbered_gates (variables_of w) lines ≡ map to_gate (operands_of lines)
   gates_are = ap (λ r. numbered_gates r lines) variables ∙ gates_numbered (1 + many + count) lines gates_within
@@ -108,7 +108,7 @@ module _ (inputs : List ℕ) (outputs : List RootLine) (lines : List GateLine) (
   pub file_is : InOrder (1 + many) (map to_gate (operands_of lines)) → file_written w ≡ Ok (file_by w (1 + many) (map to_gate (operands_of lines)) (by_depth (1 + many) (map to_gate (operands_of lines))))
   unfolding file_written
   file_is order =
-      let cyclic_none : first_cyclic (1 + many) (map to_gate (operands_of lines)) lines ≡ None = ap (option_map (λ (p : ℕ × GateLine). p.1.place)) (no_cycle (1 + many) 0 (map to_gate (operands_of lines)) lines order (omega (arith, gate_count))) in
+      let cyclic_none : first_cyclic (1 + many) (map to_gate (operands_of lines)) lines ≡ None = ap (option_map (λ (p : ℕ × GateLine). p.1.offset)) (no_cycle (1 + many) 0 (map to_gate (operands_of lines)) lines order (omega (arith, gate_count))) in
       rw (undefined_none, gates_are, first_is, cyclic_none) refl
 
   -- a literal keeps its number before the gates are put in order

@@ -5,7 +5,8 @@ use Rattle.std.specs.List.{range_with_len}
 use Rattle.std.proofs.lemmas.Bool.Decides.{nat_tests}
 use Rattle.std.proofs.lemmas.List.{drop_all, drop_more, take_more, map_push}
 use Rattle.std.proofs.lemmas.Option.{slice_get-get_or, slice_get_within, get_or_from_slice_get}
-use Rattle.craig_spec.specs.AigerReading.{Counts, Fault, GateLine, RootLine, TextLine, gate_in, gate_of, input_in, input_of, is_literal, is_new, is_variable, numbers_in, read_lines, root_in, root_of}
+use Rattle.craig_spec.specs.AigerFault.{Fault}
+use Rattle.craig_spec.specs.AigerReading.{Counts, GateLine, RootLine, TextLine, gate_in, gate_of, input_in, input_of, is_literal, is_new, is_variable, numbers_in, read_lines, root_in, root_of}
 use Rattle.craig_aiger.specs.declared.out_name.OutName.{OutName}
 use Rattle.craig_aiger.proofs.TextLinesLemmas.{each_line, get_or-each_line, length-each_line, gate_bytes, input_bytes, output_bytes}
 use Rattle.craig_aiger.proofs.CircuitOrderLemmas.{has}
@@ -88,14 +89,14 @@ literal_test c l h = grind (arith, nat_tests, h)
 new_test : (known : List ℕ) (n : ℕ) → has known n ≡ false → is_new known (2 * n) ≡ true
 new_test known n e = let h : (2 * n) / 2 ≡ n = omega arith in rw (h, e) refl
 
-input_read : (c : Counts) (known : List ℕ) (place n : ℕ) → 1 ≤ n → n ≤ c.greatest → has known n ≡ false → input_of c known place (Some (2 * n ∷ [])) ≡ Ok n
-input_read c known place n low high new = let h : (2 * n) / 2 ≡ n = omega arith in rw (variable_test c n low high, new_test known n new, h) refl
+input_read : (c : Counts) (known : List ℕ) (offset n : ℕ) → 1 ≤ n → n ≤ c.greatest → has known n ≡ false → input_of c known offset (Some (2 * n ∷ [])) ≡ Ok n
+input_read c known offset n low high new = let h : (2 * n) / 2 ≡ n = omega arith in rw (variable_test c n low high, new_test known n new, h) refl
 
-root_read : (c : Counts) (place l : ℕ) → l < 2 * (1 + c.greatest) → root_of c place (Some (l ∷ [])) ≡ Ok (record { place = place; literal = l })
-root_read c place l h = rw (literal_test c l h) refl
+root_read : (c : Counts) (offset l : ℕ) → l < 2 * (1 + c.greatest) → root_of c offset (Some (l ∷ [])) ≡ Ok (record { offset = offset; literal = l })
+root_read c offset l h = rw (literal_test c l h) refl
 
-gate_read : (c : Counts) (known : List ℕ) (place n a b : ℕ) → 1 ≤ n → n ≤ c.greatest → has known n ≡ false → a < 2 * (1 + c.greatest) → b < 2 * (1 + c.greatest) → gate_of c known place (Some (2 * n ∷ (a ∷ (b ∷ [])))) ≡ Ok (record { place = place; variable = n; left = a; right = b })
-gate_read c known place n a b low high new ha hb =
+gate_read : (c : Counts) (known : List ℕ) (offset n a b : ℕ) → 1 ≤ n → n ≤ c.greatest → has known n ≡ false → a < 2 * (1 + c.greatest) → b < 2 * (1 + c.greatest) → gate_of c known offset (Some (2 * n ∷ (a ∷ (b ∷ [])))) ≡ Ok (record { offset = offset; variable = n; left = a; right = b })
+gate_read c known offset n a b low high new ha hb =
     let h : (2 * n) / 2 ≡ n = omega arith in
     rw (variable_test c n low high, literal_test c a ha, literal_test c b hb, new_test known n new, h) refl
 
@@ -108,7 +109,7 @@ module _ (c : Counts) (end : ℕ) (xs : List ℕ) (rest : List (List ℕ)) (few 
   unfolding input_in
   input_step i before line within bytes right = record {
     one = 1 + i;
-    read = ap (input_of c (0 ∷ before) line.place) (ap numbers_in bytes ∙ one_number (2 * (1 + i)) (omega arith)) ∙ input_read c (0 ∷ before) line.place (1 + i) (omega arith) (omega arith)
+    read = ap (input_of c (0 ∷ before) line.offset) (ap numbers_in bytes ∙ one_number (2 * (1 + i)) (omega arith)) ∙ input_read c (0 ∷ before) line.offset (1 + i) (omega arith) (omega arith)
         (ap (λ known. has (0 ∷ known) (1 + i)) right ∙ (let e : eqb (1 + i) 0 ≡ false = grind (arith, nat_tests) in rw e (has-outside 1 i (1 + i) (omega arith))));
     right = ap (λ l. l ++ (1 + i) ∷ []) right ∙ range-more 1 i (1 + i) refl;
   }
@@ -133,9 +134,9 @@ module _ (c : Counts) (end : ℕ) (xs : List (OutName × ℕ)) (rest : List (Lis
       let inside : i < length xs = slice_get_within xs i x there in
       let more : map (λ (y : OutName × ℕ). y.1) (take (i + 1) xs) ≡ map (λ (y : OutName × ℕ). y.1) (take i xs) ++ x.1 ∷ [] = ap (map (λ (y : OutName × ℕ). y.1)) (take_more xs i x inside ∙ ap (λ y. take i xs ++ y ∷ []) (get_or_from_slice_get xs i x x there)) ∙ map_push (λ (y : OutName × ℕ). y.1) (take i xs) x in
       record {
-        one = record { place = line.place; literal = x.1 };
-        read = ap (root_of c line.place) (ap numbers_in bytes ∙ one_number x.1 (omega (arith, within i x there))) ∙ root_read c line.place x.1 (within i x there);
-        right = map_push (λ (r : RootLine). r.literal) before (record { place = line.place; literal = x.1 }) ∙ ap (λ l. l ++ x.1 ∷ []) right ∙ sym more;
+        one = record { offset = line.offset; literal = x.1 };
+        read = ap (root_of c line.offset) (ap numbers_in bytes ∙ one_number x.1 (omega (arith, within i x there))) ∙ root_read c line.offset x.1 (within i x there);
+        right = map_push (λ (r : RootLine). r.literal) before (record { offset = line.offset; literal = x.1 }) ∙ ap (λ l. l ++ x.1 ∷ []) right ∙ sym more;
       }
 
   pub read_outputs : (lines : List TextLine) (d : OutName × ℕ) → bytes_of lines ≡ each_line output_bytes 0 xs ++ rest → Section (root_in c) end (length xs) [] lines (RightOutputs (length (each_line output_bytes 0 xs))) rest
@@ -171,12 +172,12 @@ module _ (c : Counts) (end first : ℕ) (known : List ℕ) (xs : List (ℕ × �
       let inside : i < length xs = slice_get_within xs i x there in
       let w = within i x there in
       let more : take (i + 1) xs ≡ take i xs ++ x ∷ [] = take_more xs i x inside ∙ ap (λ y. take i xs ++ y ∷ []) (get_or_from_slice_get xs i x x there) in
-      let g : GateLine = record { place = line.place; variable = first + i; left = x.0; right = x.1 } in
+      let g : GateLine = record { offset = line.offset; variable = first + i; left = x.0; right = x.1 } in
       let new : has (known ++ variables_of_gates before) (first + i) ≡ false = ap (λ l. has l (first + i)) (known_range known (variables_of_gates before) first i known_is right.variables) ∙ has-outside 0 (first + i) (first + i) (omega arith) in
       record {
         one = g;
-        read = ap (gate_of c (known ++ variables_of_gates before) line.place) (ap numbers_in bytes ∙ three_numbers (2 * (first + i)) x.0 x.1 (omega arith) (omega (arith, w.0)) (omega (arith, w.1)))
-            ∙ gate_read c (known ++ variables_of_gates before) line.place (first + i) x.0 x.1 (omega arith) (omega arith) new w.0 w.1;
+        read = ap (gate_of c (known ++ variables_of_gates before) line.offset) (ap numbers_in bytes ∙ three_numbers (2 * (first + i)) x.0 x.1 (omega arith) (omega (arith, w.0)) (omega (arith, w.1)))
+            ∙ gate_read c (known ++ variables_of_gates before) line.offset (first + i) x.0 x.1 (omega arith) (omega arith) new w.0 w.1;
         right = record {
           variables = map_push (λ (l : GateLine). l.variable) before g ∙ ap (λ l. l ++ (first + i) ∷ []) right.variables ∙ range-more first i (first + i) refl;
           operands = map_push (λ (l : GateLine). (l.left, l.right)) before g ∙ ap (λ l. l ++ x ∷ []) right.operands ∙ sym more;

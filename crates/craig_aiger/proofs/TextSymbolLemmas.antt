@@ -7,7 +7,8 @@ use Rattle.std.proofs.lemmas.Bool.Decides.{nat_tests}
 use Rattle.std.proofs.lemmas.List.{append-nil, length-map, take_more, take_all}
 use Rattle.std.proofs.lemmas.List.Folds.{find-append, list_all-append, list_any-append}
 use Rattle.std.proofs.lemmas.Option.{slice_get-get_or, slice_get_within, get_or_from_slice_get}
-use Rattle.craig_spec.specs.AigerReading.{Counts, Fault, Symbol, TextLine, ◌>>=◌, count_named, is_before_comments, is_symbol_of, name_of, read_lines, symbol_checked, symbol_in, symbol_of}
+use Rattle.craig_spec.specs.AigerFault.{Fault}
+use Rattle.craig_spec.specs.AigerReading.{Counts, Symbol, TextLine, ◌>>=◌, count_named, is_before_comments, is_symbol_of, name_of, read_lines, symbol_checked, symbol_in, symbol_of}
 use Rattle.craig_aiger.specs.declared.out_name.OutName.{OutName}
 use Rattle.craig_aiger.specs.OutNames.{name_text}
 use Rattle.craig_aiger.proofs.TextLinesLemmas.{each_line, get_or-each_line, length-each_line, input_name_bytes, output_name_bytes}
@@ -68,7 +69,7 @@ symbol_bytes letter n name h =
 symbol_read : (c : Counts) (before : List Symbol) (line : TextLine) (letter n : ℕ) (name : List ℕ) → line.bytes ≡ letter ∷ (decimal n ++ 32 ∷ name) → n < 10 ^ 18 → nat_lt n (count_named c letter) ≡ true → list_any (is_symbol_of letter n) before ≡ false → symbol_in c before line ≡ Ok (record { letter = letter; position = n; name = name })
 unfolding symbol_in
 symbol_read c before line letter n name bytes small counted new =
-    ap (symbol_checked c before line.place) (ap symbol_of bytes ∙ symbol_bytes letter n name small) ∙ (rw (counted, new) refl)
+    ap (symbol_checked c before line.offset) (ap symbol_of bytes ∙ symbol_bytes letter n name small) ∙ (rw (counted, new) refl)
 
 ok_is : {A : Type 0} (x y : A) → ◌≡◌ {A = Result A Fault} (Ok x) (Ok y) → x ≡ y
 ok_is x y e = cc

@@ -15,7 +15,7 @@ use Rattle.craig_aig.specs.declared.node.Node.{Node}
 use Rattle.craig_aig.specs.declared.node.Node.TheVariants.{Input, Gate}
 use Rattle.craig_base.specs.declared.variable.Var.{Var}
 use Rattle.craig_aiger.specs.declared.out_name.OutName.{OutName}
-use Rattle.craig_aiger.specs.Layouts.{AreNeeded, IsLayout, Layout, at, circuit_of, edges_of, input_in, literal_of}
+use Rattle.craig_aiger.specs.Layouts.{AreNeeded, IsLayout, Layout, at, circuit_of, edges_of, node_variable, edge_literal}
 use Rattle.craig_aiger.proofs.NamedLemmas.{input_is, is_some_of}
 use Rattle.craig_aiger.proofs.TableLemmas.{map_at}
 
@@ -49,19 +49,19 @@ needed_reached from_operands nodes edges table k arena h some within =
 pub record Given (table : List (Option Node)) (v : ℕ) : Type 0 where
   pub place : ℕ
   pub within : place < length table
-  pub gives : input_in (at table place) ≡ Some v
+  pub gives : node_variable (at table place) ≡ Some v
 
 given_later : (o : Option Node) (table : List (Option Node)) (v : ℕ) → Given table v → Given (o ∷ table) v
 given_later o table v g = record { place = suc g.place; within = omega (arith, g.within); gives = g.gives }
 
-given_by : (o : Option Node) (table : List (Option Node)) (v : ℕ) (i : Option ℕ) → input_in o ≡ i → Contains (cons_option i (filter_map input_in table)) v → (Contains (filter_map input_in table) v → Given table v) → Given (o ∷ table) v
+given_by : (o : Option Node) (table : List (Option Node)) (v : ℕ) (i : Option ℕ) → node_variable o ≡ i → Contains (cons_option i (filter_map node_variable table)) v → (Contains (filter_map node_variable table) v → Given table v) → Given (o ∷ table) v
 given_by o table v None e m rest = given_later o table v (rest m)
 given_by o table v (Some x) e (zero, within, is) rest = record { place = 0; within = omega arith; gives = e ∙ ap Some is }
 given_by o table v (Some x) e (suc k, within, is) rest = given_later o table v (rest (k, omega arith, is))
 
-pub given : (table : List (Option Node)) (v : ℕ) → Contains (filter_map input_in table) v → Given table v
+pub given : (table : List (Option Node)) (v : ℕ) → Contains (filter_map node_variable table) v → Given table v
 given [] v m = absurd (omega (arith, m.1))
-given (o ∷ table) v m = given_by o table v (input_in o) refl m (given table v)
+given (o ∷ table) v m = given_by o table v (node_variable o) refl m (given table v)
 
 pub member_of_map : {X Y : Type 0} (f : X → Y) (xs : List X) (y : Y) → Contains (map f xs) y → (x : X) × Contains xs x × (f x ≡ y)
 member_of_map f [] y (k, within, is) = absurd (omega arith)
@@ -106,8 +106,8 @@ module _ (nodes : List Node) (names : List ℕ) (outputs : List (OutName × Edge
   -- an output whose edge reaches the variable
   used_from : (x v : ℕ) → get_or names v 0 ≡ x → Reaching nodes outputs v → (j : ℕ) × (l : OutName × ℕ) × (slice_get layout.outputs j ≡ Some l) × Contains (circuit.circuit_cone (circuit_of layout) l.1) x
   used_from x v named r =
-      let l : OutName × ℕ = (r.output.0, literal_of h.numbers r.output.1) in
-      let laid : slice_get layout.outputs r.place ≡ Some l = ap (λ ls. slice_get ls r.place) h.outputs_are ∙ map_at (λ (p : OutName × Edge). (p.0, literal_of h.numbers p.1)) outputs r.place r.output r.there in
+      let l : OutName × ℕ = (r.output.0, edge_literal h.numbers r.output.1) in
+      let laid : slice_get layout.outputs r.place ≡ Some l = ap (λ ls. slice_get ls r.place) h.outputs_are ∙ map_at (λ (p : OutName × Edge). (p.0, edge_literal h.numbers p.1)) outputs r.place r.output r.there in
       (r.place, l, laid, (same_cones r.place r.output l x r.there laid).1 (subst (Contains (map (λ k. get_or names k 0) (cone nodes r.output.1))) named (map_member (λ k. get_or names k 0) (cone nodes r.output.1) v r.has_it)))
 
   -- a needed input is reached
@@ -121,6 +121,6 @@ module _ (nodes : List Node) (names : List ℕ) (outputs : List (OutName × Edge
 
   pub AreUsed-layout : ConesFromOperands → IsAig nodes → (x : ℕ) → Contains layout.inputs x → (j : ℕ) × (l : OutName × ℕ) × (slice_get layout.outputs j ≡ Some l) × Contains (circuit.circuit_cone (circuit_of layout) l.1) x
   AreUsed-layout from_operands arena x here =
-      let m = member_of_map (λ k. get_or names k 0) (filter_map input_in h.table) x ((h.inputs_are x).0 here) in
+      let m = member_of_map (λ k. get_or names k 0) (filter_map node_variable h.table) x ((h.inputs_are x).0 here) in
       let g : Given h.table m.0 = given h.table m.0 m.1 in
       used_from x m.0 m.2 (reaching nodes outputs m.0 (input_reached from_operands m.0 arena g (input_is (at h.table g.place) m.0 g.gives)))

@@ -12,24 +12,24 @@ use Rattle.craig_aig.specs.Edges.{Edge}
 use Rattle.craig_aig.specs.declared.node.Node.{Node}
 use Rattle.craig_aig.specs.declared.node.Node.TheVariants.{Gate}
 use Rattle.craig_aiger.specs.declared.out_name.OutName.{OutName}
-use Rattle.craig_aiger.specs.Layouts.{Layout, circuit_of, at, edges_of, input_in, gate_in, gate_of, ordered, literal_of, AreNeeded, IsLayout, IsNumbering, IsWritable}
+use Rattle.craig_aiger.specs.Layouts.{Layout, circuit_of, at, edges_of, node_variable, node_operands, gate_literals, ordered, edge_literal, AreNeeded, IsLayout, IsNumbering, IsWritable}
 use Rattle.craig_aiger.proofs.NeededLemmas.{gate_read}
 use Rattle.craig_aiger.proofs.CircuitLemmas.{number_below, some_node}
 use Rattle.craig_aiger.proofs.FunctionLemmas.{kept, output_needed}
 
 -- a layout that is put together from its parts, which are read as slices
 pub IsLayout-made : (nodes : List Node) (names : List ℕ) (outputs : List (OutName × Edge)) (table t : List (Option Node)) (inputs i numbers n : List ℕ) (gates : List (ℕ × ℕ)) (laid : List (OutName × ℕ)) → t ≡ table → i ≡ inputs → n ≡ numbers → AreNeeded nodes (edges_of outputs) table → IsNumbering names i t numbers → IsStrictlyIncreasing inputs →
-    ((x : ℕ) → (Contains inputs x → Contains (map (λ k. get_or names k 0) (filter_map input_in t)) x) × (Contains (map (λ k. get_or names k 0) (filter_map input_in t)) x → Contains inputs x)) →
-    gates ≡ map (gate_of n) (filter_map gate_in t) → laid ≡ map (λ o. (o.0, literal_of n o.1)) outputs → IsLayout nodes names outputs (record { inputs = inputs; gates = gates; outputs = laid })
+    ((x : ℕ) → (Contains inputs x → Contains (map (λ k. get_or names k 0) (filter_map node_variable t)) x) × (Contains (map (λ k. get_or names k 0) (filter_map node_variable t)) x → Contains inputs x)) →
+    gates ≡ map (gate_literals n) (filter_map node_operands t) → laid ≡ map (λ o. (o.0, edge_literal n o.1)) outputs → IsLayout nodes names outputs (record { inputs = inputs; gates = gates; outputs = laid })
 IsLayout-made nodes names outputs table t inputs i numbers n gates laid table_is inputs_is numbers_is needed numbering rising inputs_are gates_are outputs_are = record {
   table = table;
   numbers = numbers;
   needed = needed;
   numbering = subst (λ u. IsNumbering names inputs u numbers) table_is (subst (λ u. IsNumbering names u t numbers) inputs_is numbering);
   rising = rising;
-  inputs_are = subst (λ (u : List (Option Node)). (x : ℕ) → (Contains inputs x → Contains (map (λ k. get_or names k 0) (filter_map input_in u)) x) × (Contains (map (λ k. get_or names k 0) (filter_map input_in u)) x → Contains inputs x)) table_is inputs_are;
-  gates_are = gates_are ∙ ap (λ u. map (gate_of u) (filter_map gate_in t)) numbers_is ∙ ap (λ u. map (gate_of numbers) (filter_map gate_in u)) table_is;
-  outputs_are = outputs_are ∙ ap (λ u. map (λ o. (o.0, literal_of u o.1)) outputs) numbers_is;
+  inputs_are = subst (λ (u : List (Option Node)). (x : ℕ) → (Contains inputs x → Contains (map (λ k. get_or names k 0) (filter_map node_variable u)) x) × (Contains (map (λ k. get_or names k 0) (filter_map node_variable u)) x → Contains inputs x)) table_is inputs_are;
+  gates_are = gates_are ∙ ap (λ u. map (gate_literals u) (filter_map node_operands t)) numbers_is ∙ ap (λ u. map (gate_literals numbers) (filter_map node_operands u)) table_is;
+  outputs_are = outputs_are ∙ ap (λ u. map (λ o. (o.0, edge_literal u o.1)) outputs) numbers_is;
 }
 
 one_or_none : {Y : Type 0} (o : Option Y) (rest : List Y) → length (cons_option o rest) ≤ suc (length rest)
@@ -81,49 +81,49 @@ ordered_bounds : (a b bound : ℕ) (t : Bool) → nat_lt a b ≡ t → a < bound
 ordered_bounds a b bound true e p q = rw e (let h : a < b = grind (arith, nat_tests, e) in (omega (arith, h), q))
 ordered_bounds a b bound false e p q = rw e (let h : b ≤ a = grind (arith, nat_tests, e) in (omega (arith, h), p))
 
-literal_below : (numbers : List ℕ) (e : Edge) (sign : Bool) (bound : ℕ) → e.negated ≡ sign → get_or numbers e.place 0 < bound → literal_of numbers e < 2 * bound
+literal_below : (numbers : List ℕ) (e : Edge) (sign : Bool) (bound : ℕ) → e.negated ≡ sign → get_or numbers e.place 0 < bound → edge_literal numbers e < 2 * bound
 literal_below numbers e true bound is h = rw is (omega (arith, h))
 literal_below numbers e false bound is h = rw is (omega (arith, h))
 
 module _ (nodes : List Node) (names : List ℕ) (outputs : List (OutName × Edge)) (layout : Layout) (arena : IsAig nodes) (h : IsLayout nodes names outputs layout) where
   -- a literal of a needed node before a place
-  literal_before : (e : Edge) (k : ℕ) → is_some (at h.table e.place) ≡ true → e.place < k → k ≤ length h.table → literal_of h.numbers e < 2 * (1 + length layout.inputs + length (filter_map gate_in (take k h.table)))
+  literal_before : (e : Edge) (k : ℕ) → is_some (at h.table e.place) ≡ true → e.place < k → k ≤ length h.table → edge_literal h.numbers e < 2 * (1 + length layout.inputs + length (filter_map node_operands (take k h.table)))
   literal_before e k some below within =
       let n = some_node (at h.table e.place) some in
-      literal_below h.numbers e e.negated (1 + length layout.inputs + length (filter_map gate_in (take k h.table))) refl
+      literal_below h.numbers e e.negated (1 + length layout.inputs + length (filter_map node_operands (take k h.table))) refl
       (number_below names layout.inputs h.table h.numbers e.place k n.0 h.numbering n.1 below within)
 
   -- a gate has the greater operand first, and below its own literal
   pub operands_bound : (j : ℕ) (g : ℕ × ℕ) → slice_get layout.gates j ≡ Some g → (g.1 ≤ g.0) × (g.0 < 2 * (1 + length layout.inputs + j))
   operands_bound j g is =
-      let at_map : slice_get (map (gate_of h.numbers) (filter_map gate_in h.table)) j ≡ Some g = sym (ap (λ gs. slice_get gs j) h.gates_are) ∙ is in
-      let p = mapped (gate_of h.numbers) (filter_map gate_in h.table) j g at_map in
-      let f = from gate_in h.table j p.0 None p.1 in
+      let at_map : slice_get (map (gate_literals h.numbers) (filter_map node_operands h.table)) j ≡ Some g = sym (ap (λ gs. slice_get gs j) h.gates_are) ∙ is in
+      let p = mapped (gate_literals h.numbers) (filter_map node_operands h.table) j g at_map in
+      let f = from node_operands h.table j p.0 None p.1 in
       let there : at h.table f.place ≡ Some (Gate p.0.0 p.0.1) = gate_read h.table f.place None p.0.0 p.0.1 f.within f.gives in
       let k = kept nodes names outputs layout arena h f.place p.0.0 p.0.1 there in
-      let left : literal_of h.numbers p.0.0 < 2 * (1 + length layout.inputs + j) = omega (arith, f.before, literal_before p.0.0 f.place k.2 k.0 (omega (arith, f.within))) in
-      let right : literal_of h.numbers p.0.1 < 2 * (1 + length layout.inputs + j) = omega (arith, f.before, literal_before p.0.1 f.place k.3 k.1 (omega (arith, f.within))) in
-      let bounds = ordered_bounds (literal_of h.numbers p.0.0) (literal_of h.numbers p.0.1) (2 * (1 + length layout.inputs + j)) (nat_lt (literal_of h.numbers p.0.0) (literal_of h.numbers p.0.1)) refl left right in
+      let left : edge_literal h.numbers p.0.0 < 2 * (1 + length layout.inputs + j) = omega (arith, f.before, literal_before p.0.0 f.place k.2 k.0 (omega (arith, f.within))) in
+      let right : edge_literal h.numbers p.0.1 < 2 * (1 + length layout.inputs + j) = omega (arith, f.before, literal_before p.0.1 f.place k.3 k.1 (omega (arith, f.within))) in
+      let bounds = ordered_bounds (edge_literal h.numbers p.0.0) (edge_literal h.numbers p.0.1) (2 * (1 + length layout.inputs + j)) (nat_lt (edge_literal h.numbers p.0.0) (edge_literal h.numbers p.0.1)) refl left right in
       rw p.2 bounds
 
-  gate_count : length layout.gates ≡ length (filter_map gate_in (take (length h.table) h.table))
-  gate_count = ap length h.gates_are ∙ length-map (filter_map gate_in h.table) (gate_of h.numbers) ∙ ap (λ t. length (filter_map gate_in t)) (sym (take_all (length h.table) h.table (omega arith)))
+  gate_count : length layout.gates ≡ length (filter_map node_operands (take (length h.table) h.table))
+  gate_count = ap length h.gates_are ∙ length-map (filter_map node_operands h.table) (gate_literals h.numbers) ∙ ap (λ t. length (filter_map node_operands t)) (sym (take_all (length h.table) h.table (omega arith)))
 
   output_count : length layout.outputs ≡ length outputs
-  output_count = ap length h.outputs_are ∙ length-map outputs (λ o. (o.0, literal_of h.numbers o.1))
+  output_count = ap length h.outputs_are ∙ length-map outputs (λ o. (o.0, edge_literal h.numbers o.1))
 
   output_bound : All (λ p. p.1.place < length nodes) outputs → (j : ℕ) (o : OutName × ℕ) → slice_get layout.outputs j ≡ Some o → o.1 < 2 * (1 + length layout.inputs + length layout.gates)
   output_bound within j o is =
-      let at_map : slice_get (map (λ (p : OutName × Edge). (p.0, literal_of h.numbers p.1)) outputs) j ≡ Some o = sym (ap (λ os. slice_get os j) h.outputs_are) ∙ is in
-      let p = mapped (λ (p : OutName × Edge). (p.0, literal_of h.numbers p.1)) outputs j o at_map in
+      let at_map : slice_get (map (λ (p : OutName × Edge). (p.0, edge_literal h.numbers p.1)) outputs) j ≡ Some o = sym (ap (λ os. slice_get os j) h.outputs_are) ∙ is in
+      let p = mapped (λ (p : OutName × Edge). (p.0, edge_literal h.numbers p.1)) outputs j o at_map in
       let n = output_needed nodes names outputs layout arena h j p.0 within p.1 in
-      let bound : literal_of h.numbers p.0.1 < 2 * (1 + length layout.inputs + length layout.gates) = omega (arith, gate_count, literal_before p.0.1 (length h.table) n.1 n.0 (omega arith)) in
+      let bound : edge_literal h.numbers p.0.1 < 2 * (1 + length layout.inputs + length layout.gates) = omega (arith, gate_count, literal_before p.0.1 (length h.table) n.1 n.0 (omega arith)) in
       rw p.2 bound
 
   pub IsWritable-layout : All (λ p. p.1.place < length nodes) outputs → length nodes ≤ 2 ^ 40 → length outputs ≤ 2 ^ 40 → length layout.inputs ≤ length nodes → All (λ x. (1 ≤ x) × (x ≤ 2147483647)) layout.inputs → All (λ o. o.0.cut < 2 ^ 32) layout.outputs → IsStrict (circuit_of layout) → IsWritable layout
   IsWritable-layout within few_nodes few_outputs few_inputs variables cuts strict = record {
     few_inputs = omega (arith, h.needed.lengths);
-    few_gates = omega (arith, h.needed.lengths, gate_count, take_all (length h.table) h.table, length-filter_map-le gate_in (take (length h.table) h.table), ap length (take_all (length h.table) h.table (omega arith)));
+    few_gates = omega (arith, h.needed.lengths, gate_count, take_all (length h.table) h.table, length-filter_map-le node_operands (take (length h.table) h.table), ap length (take_all (length h.table) h.table (omega arith)));
     few_outputs = omega (arith, output_count);
     variables = variables;
     cuts = cuts;

@@ -43,12 +43,12 @@ pub record IsWritable (l : Layout) : Type 0 where
   pub strict : circuit.IsStrict (circuit_of l)
 
 -- with each gate the set of places has its operands
-abbrev pub IsClosed : List Node → (ℕ → Bool) → Type 0
-IsClosed nodes has = (k : ℕ) (left right : Edge) → slice_get nodes k ≡ Some (node.Gate left right) → IsTrue (has k) → IsTrue (has left.place) × IsTrue (has right.place)
+abbrev pub HasOperandNodes : List Node → (ℕ → Bool) → Type 0
+HasOperandNodes nodes has = (k : ℕ) (left right : Edge) → slice_get nodes k ≡ Some (node.Gate left right) → IsTrue (has k) → IsTrue (has left.place) × IsTrue (has right.place)
 
 -- the node is in each closed set that has the nodes of the edges: it is of one of their cones
-abbrev pub IsNeeded : List Node → List Edge → ℕ → Type 0
-IsNeeded nodes edges place = (has : ℕ → Bool) → All (λ e. IsTrue (has e.place)) edges → IsClosed nodes has → IsTrue (has place)
+abbrev pub IsInCones : List Node → List Edge → ℕ → Type 0
+IsInCones nodes edges place = (has : ℕ → Bool) → All (λ e. IsTrue (has e.place)) edges → HasOperandNodes nodes has → IsTrue (has place)
 
 -- what the table has at a place
 abbrev pub at : List (Option Node) → ℕ → Option Node
@@ -58,39 +58,39 @@ at table k = slice_index_or table k None
 pub record AreNeeded (nodes : List Node) (edges : List Edge) (table : List (Option Node)) : Type 0 where
   pub lengths : length table ≡ length nodes
   pub nodes_are : (k : ℕ) (n : Node) → at table k ≡ Some n → slice_get nodes k ≡ Some n
-  pub needed : (k : ℕ) → k < length nodes → IsTrue (is_some (at table k)) ↔ IsNeeded nodes edges k
+  pub needed : (k : ℕ) → k < length nodes → IsTrue (is_some (at table k)) ↔ IsInCones nodes edges k
 
 -- the table has the nodes of the edges, and needed ones alone
 pub record IsRooted (nodes : List Node) (edges : List Edge) (table : List (Option Node)) : Type 0 where
   pub lengths : length table ≡ length nodes
   pub nodes_are : (k : ℕ) (n : Node) → at table k ≡ Some n → slice_get nodes k ≡ Some n
   pub rooted : All (λ e. IsTrue (is_some (at table e.place))) edges
-  pub needed : (k : ℕ) → IsTrue (is_some (at table k)) → IsNeeded nodes edges k
+  pub needed : (k : ℕ) → IsTrue (is_some (at table k)) → IsInCones nodes edges k
 
 -- the variable of an input
-abbrev pub input_in : Option Node → Option ℕ
-input_in None = None
-input_in (Some node.Constant) = None
-input_in (Some (node.Input x)) = Some x.0
-input_in (Some (node.Gate left right)) = None
+abbrev pub node_variable : Option Node → Option ℕ
+node_variable None = None
+node_variable (Some node.Constant) = None
+node_variable (Some (node.Input x)) = Some x.0
+node_variable (Some (node.Gate left right)) = None
 
 -- the operands of a gate
-abbrev pub gate_in : Option Node → Option (Edge × Edge)
-gate_in None = None
-gate_in (Some node.Constant) = None
-gate_in (Some (node.Input x)) = None
-gate_in (Some (node.Gate left right)) = Some (left, right)
+abbrev pub node_operands : Option Node → Option (Edge × Edge)
+node_operands None = None
+node_operands (Some node.Constant) = None
+node_operands (Some (node.Input x)) = None
+node_operands (Some (node.Gate left right)) = Some (left, right)
 
 -- each input of the table has a name
 abbrev pub AreNamed : List ℕ → List (Option Node) → Type 0
-AreNamed names table = (k x : ℕ) → input_in (at table k) ≡ Some x → x < length names
+AreNamed names table = (k x : ℕ) → node_variable (at table k) ≡ Some x → x < length names
 
 -- the number of a node: 0 for the constant, from 1 on for the inputs in the order of the list, and then those of the gates, of which so many nodes stand before
 abbrev pub IsNumber : List ℕ → List ℕ → List (Option Node) → Option Node → ℕ → Type 0
 IsNumber names inputs before None m = Unit {0}
 IsNumber names inputs before (Some node.Constant) m = m ≡ 0
 IsNumber names inputs before (Some (node.Input x)) m = (i : ℕ) × (m ≡ 1 + i) × (slice_get inputs i ≡ Some (slice_index names x.0)) × (x.0 < length names)
-IsNumber names inputs before (Some (node.Gate left right)) m = m ≡ 1 + length inputs + length (filter_map gate_in before)
+IsNumber names inputs before (Some (node.Gate left right)) m = m ≡ 1 + length inputs + length (filter_map node_operands before)
 
 -- each node of the table has its number at its place
 pub record IsNumbering (names inputs : List ℕ) (table : List (Option Node)) (numbers : List ℕ) : Type 0 where
@@ -98,16 +98,16 @@ pub record IsNumbering (names inputs : List ℕ) (table : List (Option Node)) (n
   pub each : (k : ℕ) → k < length table → IsNumber names inputs (take k table) (at table k) (slice_index numbers k)
 
 -- the literal of an edge, by the numbers of the nodes
-abbrev pub literal_of : List ℕ → Edge → ℕ
-literal_of numbers e = 2 * slice_index numbers e.place + (if e.negated then 1 else 0)
+abbrev pub edge_literal : List ℕ → Edge → ℕ
+edge_literal numbers e = 2 * slice_index numbers e.place + (if e.negated then 1 else 0)
 
 -- the gate of two operand literals, the greater first
 abbrev pub ordered : ℕ → ℕ → (ℕ × ℕ)
 ordered a b = if nat_lt a b then (b, a) else (a, b)
 
 -- the literals of the operands of a gate
-abbrev pub gate_of : List ℕ → (Edge × Edge) → (ℕ × ℕ)
-gate_of numbers operands = ordered (literal_of numbers operands.0) (literal_of numbers operands.1)
+abbrev pub gate_literals : List ℕ → (Edge × Edge) → (ℕ × ℕ)
+gate_literals numbers operands = ordered (edge_literal numbers operands.0) (edge_literal numbers operands.1)
 
 -- the operands of each gate of the table stand before it
 abbrev pub OperandsBelow : List (Option Node) → Type 0
@@ -125,10 +125,10 @@ pub record IsLayout (nodes : List Node) (names : List ℕ) (outputs : List (OutN
   pub numbering : IsNumbering names layout.inputs table numbers
   -- the inputs rise, and are the names of the needed inputs
   pub rising : IsStrictlyIncreasing layout.inputs
-  pub inputs_are : (x : ℕ) → Contains layout.inputs x ↔ Contains (map (slice_index names) (filter_map input_in table)) x
+  pub inputs_are : (x : ℕ) → Contains layout.inputs x ↔ Contains (map (slice_index names) (filter_map node_variable table)) x
   -- the gates are those needed, in the order of the arena
-  pub gates_are : layout.gates ≡ map (gate_of numbers) (filter_map gate_in table)
-  pub outputs_are : layout.outputs ≡ map (λ o. (o.0, literal_of numbers o.1)) outputs
+  pub gates_are : layout.gates ≡ map (gate_literals numbers) (filter_map node_operands table)
+  pub outputs_are : layout.outputs ≡ map (λ o. (o.0, edge_literal numbers o.1)) outputs
 
 -- the dense variables whose names are true
 abbrev pub dense_assignment : List ℕ → Assignment → Assignment

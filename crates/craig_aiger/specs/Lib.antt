@@ -3,15 +3,3 @@ pub mod Layouts
 pub mod AsciiText
 pub mod Appending
 pub mod RoundTrip
-pub mod Cuts
-pub mod ReadFaults
-pub mod ReadLines
-pub mod ReadViews
-pub mod ReadNames
-pub mod ReadWritten
-pub mod ReadNumbers
-pub mod ReadDepths
-pub mod ReadOrder
-pub mod Ranks
-pub mod ReadFiles
-pub mod Assembled

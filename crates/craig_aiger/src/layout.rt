@@ -6,11 +6,11 @@ ghost use Rattle.craig_aiger.specs.AsciiText.{aag_text, text_in};
 ghost use Rattle.craig_aiger.specs.Layouts.{circuit_of, HasFunctions, IsLayout, IsWritable};
 ghost use Rattle.craig_aiger.specs.RoundTrip.{ReadsAs};
 
-use crate::ascii::append_text;
-use crate::inputs::input_names;
 use crate::needed::needed_nodes;
-use crate::numbering::{number_nodes, numbered_gates, numbered_outputs};
-use crate::size::text_size;
+use crate::node_numbers::{number_nodes, numbered_gates, numbered_outputs};
+use crate::script_inputs::input_names;
+use crate::text_size::text_size;
+use crate::writing::append_text;
 use crate::{Form, OutName};
 use craig_aig::{Aig, Edge};
 use craig_base::Names;

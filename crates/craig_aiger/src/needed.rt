@@ -1,7 +1,7 @@
 //! Which nodes some edges need: one pass from the last node back, which keeps the operands of each kept gate.
 ghost use Rattle.std.specs.Prelude.{◌≡◌, ◌<◌, ℕ, None, All, length, slice_get, nat_eq, IfOk, if◌then◌else◌};
 ghost use Rattle.craig_aig.specs.Arenas.{IsAig};
-ghost use Rattle.craig_aiger.specs.Layouts.{AreNeeded, IsRooted, at, edges_of, gate_in};
+ghost use Rattle.craig_aiger.specs.Layouts.{AreNeeded, IsRooted, at, edges_of, node_operands};
 
 use crate::OutName;
 use craig_aig::{Aig, Edge, Node};
@@ -31,7 +31,7 @@ fn keep_outputs(table: &mut [Option<Node>], aig: &Aig, outputs: &[(OutName, Edge
 
 // The operands of a node, if there is one and it is a gate.
 pub(crate) fn gate_operands(node: &Option<Node>) -> Option<(Edge, Edge)>
-    ensures { result ≡ gate_in node.now }
+    ensures { result ≡ node_operands node.now }
 {
     match node {
         Some(Node::Gate(left, right)) => Some((*left, *right)),

@@ -9,26 +9,8 @@ use Rattle.std.specs.List.{before_first, after_first, enumerate_from, flat_map, 
 use Rattle.std.specs.Char.{is_ascii_digit}
 use Rattle.std.specs.Str.{bytes_eq}
 use Rattle.std.specs.Str.Parse.{digits_value}
+use Rattle.craig_spec.specs.AigerFault.{Fault, FaultKind}
 use Rattle.craig_spec.specs.Circuit.{Circuit, Gate, Output}
-
--- what is wrong with a text
-pub data FaultKind : Type 0 where
-  WrongHeader : FaultKind
-  WrongCount : FaultKind
-  UnsupportedSection : FaultKind
-  TruncatedText : FaultKind
-  WrongLine : FaultKind
-  WrongLiteral : FaultKind
-  DefinedTwice : FaultKind
-  WrongReset : FaultKind
-  WrongSymbol : FaultKind
-  NeverDefined : FaultKind
-  DependsOnItself : FaultKind
-
--- a fault, and the number of bytes before it
-pub record Fault : Type 0 where
-  pub kind : FaultKind
-  pub place : ℕ
 
 -- goes on with what was read, or stays at the fault
 infixl 10 ◌>>=◌
@@ -38,11 +20,11 @@ abbrev pub ◌>>=◌ : {A B : Type 0} → Result A Fault → (A → Result B Fau
 
 -- the fault of this kind at the place
 abbrev pub fault : {A : Type 0} → FaultKind → ℕ → Result A Fault
-fault kind place = Err (record { kind = kind; place = place })
+fault kind offset = Err (record { kind = kind; offset = offset })
 
 -- what is read, if the test holds, and else the fault
 abbrev pub checked : {A : Type 0} → Bool → FaultKind → ℕ → Result A Fault → Result A Fault
-checked test kind place read = if test then read else fault kind place
+checked test kind offset read = if test then read else fault kind offset
 
 -- all that was read, if each was
 abbrev pub all_read : {A : Type 0} → List (Option A) → Option (List A)
@@ -52,7 +34,7 @@ all_read ((Some a) ∷ xs) = option_map (λ read. a ∷ read) (all_read xs)
 
 -- a line, and the number of bytes before it
 pub record TextLine : Type 0 where
-  pub place : ℕ
+  pub offset : ℕ
   pub bytes : List ℕ
 
 -- the pieces without a last one that is empty
@@ -64,8 +46,8 @@ without_empty_end ((b ∷ bs) ∷ ps) = (b ∷ bs) ∷ without_empty_end ps
 
 -- the lines with their places, where the first has this one: one byte stands between two lines
 abbrev pub placed : ℕ → List (List ℕ) → List TextLine
-placed place [] = []
-placed place (line ∷ lines) = record { place = place; bytes = line } ∷ placed (place + length line + 1) lines
+placed offset [] = []
+placed offset (line ∷ lines) = record { offset = offset; bytes = line } ∷ placed (offset + length line + 1) lines
 
 -- the lines of a text: none begins at its end
 abbrev pub lines_of : List ℕ → List TextLine
@@ -98,19 +80,19 @@ counts_of ns = record { greatest = slice_index ns 0; inputs = slice_index ns 1; 
 
 -- the counts, if the variables are enough for them, and if the numbers behind them, those of constraints and of justice and fairness properties, are 0
 abbrev pub counts_checked : ℕ → List ℕ → Result Counts Fault
-counts_checked place ns =
+counts_checked offset ns =
     let c = counts_of ns in
-    checked (nat_le (c.inputs + c.latches + c.gates) c.greatest) WrongCount place
-    (checked (list_all (λ n. n == 0) (drop 6 ns)) UnsupportedSection place (Ok c))
+    checked (nat_le (c.inputs + c.latches + c.gates) c.greatest) FaultKind.Count offset
+    (checked (list_all (λ n. n == 0) (drop 6 ns)) FaultKind.Unsupported offset (Ok c))
 
 -- the header of these numbers: five to nine of them
 abbrev pub header_of : ℕ → Option (List ℕ) → Result Counts Fault
-header_of place None = fault WrongHeader place
-header_of place (Some ns) = checked (nat_le 5 (length ns)) WrongHeader place (counts_checked place ns)
+header_of offset None = fault FaultKind.Header offset
+header_of offset (Some ns) = checked (nat_le 5 (length ns)) FaultKind.Header offset (counts_checked offset ns)
 
 -- the header that a line is: the letters aag, a space, and its numbers
 unfoldable pub header_in : TextLine → Result Counts Fault
-header_in line = if bytes_eq (take 4 line.bytes) (codes "aag ") then header_of line.place (numbers_in (drop 4 line.bytes)) else fault WrongHeader line.place
+header_in line = if bytes_eq (take 4 line.bytes) (codes "aag ") then header_of line.offset (numbers_in (drop 4 line.bytes)) else fault FaultKind.Header line.offset
 
 -- whether the literal is of a variable up to the greatest
 abbrev pub is_literal : Counts → ℕ → Bool
@@ -132,67 +114,67 @@ pub data Reset : Type 0 where
 
 -- the lines of a latch, of an output or a bad literal, and of a gate, each with the number of bytes before it
 pub record LatchLine : Type 0 where
-  pub place : ℕ
+  pub offset : ℕ
   pub variable : ℕ
   pub next : ℕ
   pub reset : Reset
 
 pub record RootLine : Type 0 where
-  pub place : ℕ
+  pub offset : ℕ
   pub literal : ℕ
 
 pub record GateLine : Type 0 where
-  pub place : ℕ
+  pub offset : ℕ
   pub variable : ℕ
   pub left : ℕ
   pub right : ℕ
 
 -- the variable of an input with this literal, given the variables before it
 abbrev pub input_of : Counts → List ℕ → ℕ → Option (List ℕ) → Result ℕ Fault
-input_of c known place (Some (l ∷ [])) = checked (is_variable c l) WrongLiteral place (checked (is_new known l) DefinedTwice place (Ok (l / 2)))
-input_of c known place other = fault WrongLine place
+input_of c known offset (Some (l ∷ [])) = checked (is_variable c l) FaultKind.Literal offset (checked (is_new known l) FaultKind.Twice offset (Ok (l / 2)))
+input_of c known offset other = fault FaultKind.Line offset
 
 -- how the latch of a literal starts, by the last number of its line
 abbrev pub reset_of : ℕ → ℕ → ℕ → Result Reset Fault
-reset_of place own n = if n == 0 then Ok Zero else if n == 1 then Ok One else if n == own then Ok Open else fault WrongReset place
+reset_of offset own n = if n == 0 then Ok Zero else if n == 1 then Ok One else if n == own then Ok Open else fault FaultKind.Reset offset
 
 -- the latch of a literal
 abbrev pub latch_with : Counts → List ℕ → ℕ → ℕ → ℕ → ℕ → Result LatchLine Fault
-latch_with c known place own next n =
-    checked (is_variable c own && is_literal c next) WrongLiteral place
-    (checked (is_new known own) DefinedTwice place
-    (reset_of place own n >>= λ reset. Ok (record { place = place; variable = own / 2; next = next; reset = reset })))
+latch_with c known offset own next n =
+    checked (is_variable c own && is_literal c next) FaultKind.Literal offset
+    (checked (is_new known own) FaultKind.Twice offset
+    (reset_of offset own n >>= λ reset. Ok (record { offset = offset; variable = own / 2; next = next; reset = reset })))
 
 -- the latch of these numbers, given the variables before it; a reset that is missing is 0
 abbrev pub latch_of : Counts → List ℕ → ℕ → Option (List ℕ) → Result LatchLine Fault
-latch_of c known place (Some (own ∷ (next ∷ []))) = latch_with c known place own next 0
-latch_of c known place (Some (own ∷ (next ∷ (n ∷ [])))) = latch_with c known place own next n
-latch_of c known place other = fault WrongLine place
+latch_of c known offset (Some (own ∷ (next ∷ []))) = latch_with c known offset own next 0
+latch_of c known offset (Some (own ∷ (next ∷ (n ∷ [])))) = latch_with c known offset own next n
+latch_of c known offset other = fault FaultKind.Line offset
 
 -- the output or bad literal of this number
 abbrev pub root_of : Counts → ℕ → Option (List ℕ) → Result RootLine Fault
-root_of c place (Some (l ∷ [])) = checked (is_literal c l) WrongLiteral place (Ok (record { place = place; literal = l }))
-root_of c place other = fault WrongLine place
+root_of c offset (Some (l ∷ [])) = checked (is_literal c l) FaultKind.Literal offset (Ok (record { offset = offset; literal = l }))
+root_of c offset other = fault FaultKind.Line offset
 
 -- the gate of these numbers, given the variables before it
 abbrev pub gate_of : Counts → List ℕ → ℕ → Option (List ℕ) → Result GateLine Fault
-gate_of c known place (Some (own ∷ (left ∷ (right ∷ [])))) =
-    checked (is_variable c own && is_literal c left && is_literal c right) WrongLiteral place
-    (checked (is_new known own) DefinedTwice place (Ok (record { place = place; variable = own / 2; left = left; right = right })))
-gate_of c known place other = fault WrongLine place
+gate_of c known offset (Some (own ∷ (left ∷ (right ∷ [])))) =
+    checked (is_variable c own && is_literal c left && is_literal c right) FaultKind.Literal offset
+    (checked (is_new known own) FaultKind.Twice offset (Ok (record { offset = offset; variable = own / 2; left = left; right = right })))
+gate_of c known offset other = fault FaultKind.Line offset
 
 -- what a line is in its section, given what the lines before it in the section are; the constant has the variable 0
 unfoldable pub input_in : Counts → List ℕ → TextLine → Result ℕ Fault
-input_in c before line = input_of c (0 ∷ before) line.place (numbers_in line.bytes)
+input_in c before line = input_of c (0 ∷ before) line.offset (numbers_in line.bytes)
 
 unfoldable pub latch_in : Counts → List ℕ → List LatchLine → TextLine → Result LatchLine Fault
-latch_in c known before line = latch_of c (known ++ map (λ (l : LatchLine). l.variable) before) line.place (numbers_in line.bytes)
+latch_in c known before line = latch_of c (known ++ map (λ (l : LatchLine). l.variable) before) line.offset (numbers_in line.bytes)
 
 unfoldable pub root_in : Counts → List RootLine → TextLine → Result RootLine Fault
-root_in c before line = root_of c line.place (numbers_in line.bytes)
+root_in c before line = root_of c line.offset (numbers_in line.bytes)
 
 unfoldable pub gate_in : Counts → List ℕ → List GateLine → TextLine → Result GateLine Fault
-gate_in c known before line = gate_of c (known ++ map (λ (g : GateLine). g.variable) before) line.place (numbers_in line.bytes)
+gate_in c known before line = gate_of c (known ++ map (λ (g : GateLine). g.variable) before) line.offset (numbers_in line.bytes)
 
 -- a symbol: the letter of a kind of thing, the position of the thing among its kind, and its name
 pub record Symbol : Type 0 where
@@ -227,12 +209,12 @@ is_symbol_of letter position s = s.letter == letter && s.position == position
 
 -- the symbol, if there is what it names and that has no name yet
 abbrev pub symbol_checked : Counts → List Symbol → ℕ → Option Symbol → Result Symbol Fault
-symbol_checked c before place None = fault WrongSymbol place
-symbol_checked c before place (Some s) =
-    checked (nat_lt s.position (count_named c s.letter) && not (list_any (is_symbol_of s.letter s.position) before)) WrongSymbol place (Ok s)
+symbol_checked c before offset None = fault FaultKind.Symbol offset
+symbol_checked c before offset (Some s) =
+    checked (nat_lt s.position (count_named c s.letter) && not (list_any (is_symbol_of s.letter s.position) before)) FaultKind.Symbol offset (Ok s)
 
 unfoldable pub symbol_in : Counts → List Symbol → TextLine → Result Symbol Fault
-symbol_in c before line = symbol_checked c before line.place (symbol_of line.bytes)
+symbol_in c before line = symbol_checked c before line.offset (symbol_of line.bytes)
 
 -- whether the line goes on with the symbols, and doesn't open the comments
 abbrev pub is_before_comments : TextLine → Bool
@@ -241,7 +223,7 @@ is_before_comments line = not (slice_index line.bytes 0 == 99)
 -- reads so many lines, each given what those before it are, and gives the lines after them; the first that can't be read is the fault, or the end of the text
 abbrev pub read_lines : {A : Type 0} → (List A → TextLine → Result A Fault) → ℕ → ℕ → List A → List TextLine → Result (List A × List TextLine) Fault
 read_lines each end zero before lines = Ok (before, lines)
-read_lines each end (suc count) before [] = fault TruncatedText end
+read_lines each end (suc count) before [] = fault FaultKind.Truncated end
 read_lines each end (suc count) before (line ∷ lines) = each before line >>= λ a. read_lines each end count (before ++ a ∷ []) lines
 
 -- what a text says before its variables are numbered anew
@@ -274,17 +256,17 @@ variables_of w = leaves_of w.inputs w.latches ++ map (λ (g : GateLine). g.varia
 
 -- the literals that a line uses, and the number of bytes before it
 pub record Use : Type 0 where
-  pub place : ℕ
+  pub offset : ℕ
   pub literals : List ℕ
 
 abbrev pub latch_use : LatchLine → Use
-latch_use l = record { place = l.place; literals = l.next ∷ [] }
+latch_use l = record { offset = l.offset; literals = l.next ∷ [] }
 
 abbrev pub root_use : RootLine → Use
-root_use r = record { place = r.place; literals = r.literal ∷ [] }
+root_use r = record { offset = r.offset; literals = r.literal ∷ [] }
 
 abbrev pub gate_use : GateLine → Use
-gate_use g = record { place = g.place; literals = g.left ∷ (g.right ∷ []) }
+gate_use g = record { offset = g.offset; literals = g.left ∷ (g.right ∷ []) }
 
 -- the lines that use literals, in order
 abbrev pub uses_of : Written → List Use
@@ -399,15 +381,15 @@ file_by w first gates order =
 -- what is read, if nothing is found, and else the fault at the place of what is
 abbrev pub unless_found : {A : Type 0} → FaultKind → Option ℕ → Result A Fault → Result A Fault
 unless_found kind None read = read
-unless_found kind (Some place) read = fault kind place
+unless_found kind (Some offset) read = fault kind offset
 
 -- the first line that uses what is defined nowhere
 abbrev pub first_undefined : Written → Option ℕ
-first_undefined w = option_map (λ (u : Use). u.place) (find (uses_other (variables_of w)) (uses_of w))
+first_undefined w = option_map (λ (u : Use). u.offset) (find (uses_other (variables_of w)) (uses_of w))
 
 -- the first line of a gate without a depth
 abbrev pub first_cyclic : ℕ → List Gate → List GateLine → Option ℕ
-first_cyclic first gates lines = option_map (λ (p : ℕ × GateLine). p.1.place) (find (λ (p : ℕ × GateLine). is_none (gate_depth first gates p.0)) (enumerate_from 0 lines))
+first_cyclic first gates lines = option_map (λ (p : ℕ × GateLine). p.1.offset) (find (λ (p : ℕ × GateLine). is_none (gate_depth first gates p.0)) (enumerate_from 0 lines))
 
 -- the number of the first variable of a gate
 abbrev pub first_gate : Written → ℕ
@@ -417,18 +399,18 @@ first_gate w = length (leaves_of w.inputs w.latches)
 unfoldable pub file_written : Written → Result AigerFile Fault
 file_written w =
     let gates = numbered_gates (variables_of w) w.gates in
-    unless_found NeverDefined (first_undefined w)
-    (unless_found DependsOnItself (first_cyclic (first_gate w) gates w.gates)
+    unless_found FaultKind.Undefined (first_undefined w)
+    (unless_found FaultKind.Cycle (first_cyclic (first_gate w) gates w.gates)
     (Ok (file_by w (first_gate w) gates (by_depth (first_gate w) gates))))
 
 -- the file that these lines of a text with so many bytes write
 abbrev pub read_from : ℕ → List TextLine → Result AigerFile Fault
-read_from end [] = fault WrongHeader 0
+read_from end [] = fault FaultKind.Header 0
 read_from end (line ∷ lines) = header_in line >>= λ c. (written_in c end lines >>= file_written)
 
 -- the file that a text writes, or its first fault
-unfoldable pub reading : List ℕ → Result AigerFile Fault
-reading bytes = read_from (length bytes) (lines_of bytes)
+unfoldable pub aiger_reading : List ℕ → Result AigerFile Fault
+aiger_reading bytes = read_from (length bytes) (lines_of bytes)
 
 -- goes on with what there is
 infixl 10 ◌>>?◌
@@ -454,8 +436,8 @@ abbrev pub named_output : FileRoot → Option Output
 named_output r = option_map (λ name. record { name = name; literal = r.literal }) r.name
 
 -- the circuit of a file without latches and bad literals, whose inputs are named by variables and whose outputs have names
-abbrev pub circuit_of : AigerFile → Option Circuit
-circuit_of f =
+abbrev pub file_circuit : AigerFile → Option Circuit
+file_circuit f =
     if length f.latches == 0 && length f.bads == 0
     then (input_variables f.inputs >>? λ inputs. (all_read (map named_output f.outputs) >>? λ outputs. Some (record { inputs = inputs; gates = f.gates; outputs = outputs })))
     else None
@@ -467,4 +449,4 @@ without_fault (Err e) = None
 
 -- the circuit that a text is
 unfoldable pub read_aag : List ℕ → Option Circuit
-read_aag bytes = without_fault (reading bytes) >>? circuit_of
+read_aag bytes = without_fault (aiger_reading bytes) >>? file_circuit

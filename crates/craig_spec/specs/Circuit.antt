@@ -65,12 +65,12 @@ abbrev pub circuit_cone : Circuit → ℕ → List ℕ
 circuit_cone c l = slice_index_or (circuit_cones c.inputs c.gates) (l / 2) []
 
 -- with each gate the set of variables has those of its operands
-abbrev pub IsClosed : Circuit → (ℕ → Bool) → Type 0
-IsClosed c has = (j : ℕ) (g : Gate) → slice_get c.gates j ≡ Some g → IsTrue (has (1 + length c.inputs + j)) → IsTrue (has (g.left / 2)) × IsTrue (has (g.right / 2))
+abbrev pub HasOperands : Circuit → (ℕ → Bool) → Type 0
+HasOperands c has = (j : ℕ) (g : Gate) → slice_get c.gates j ≡ Some g → IsTrue (has (1 + length c.inputs + j)) → IsTrue (has (g.left / 2)) × IsTrue (has (g.right / 2))
 
 -- the variable is in each closed set that has those of the outputs: it is reached from an output
 abbrev pub IsReached : Circuit → ℕ → Type 0
-IsReached c v = (has : ℕ → Bool) → All (λ o. IsTrue (has (o.literal / 2))) c.outputs → IsClosed c has → IsTrue (has v)
+IsReached c v = (has : ℕ → Bool) → All (λ o. IsTrue (has (o.literal / 2))) c.outputs → HasOperands c has → IsTrue (has v)
 
 -- nothing is there twice or for nothing, and no gate stands before one that it uses
 pub record IsStrict (c : Circuit) : Type 0 where

@@ -5,6 +5,7 @@ pub mod Chain
 pub mod Needed
 pub mod PartialInterpolant
 pub mod Circuit
+pub mod AigerFault
 pub mod AigerReading
 pub mod Cut
 pub mod FailedAssumptions

@@ -12,7 +12,7 @@ use Rattle.craig_aig.specs.Conjunctions.{constant_edge}
 use Rattle.craig_aig.specs.Edges.{Edge}
 use Rattle.craig_aig.specs.Values.{edge_value}
 use Rattle.craig_aig.specs.declared.node.Node.{Node}
-use Rattle.craig_aiger.specs.Layouts.{Layout, HasFunctions, IsLayout, circuit_of, dense_assignment, literal_of}
+use Rattle.craig_aiger.specs.Layouts.{Layout, HasFunctions, IsLayout, circuit_of, dense_assignment, edge_literal}
 use Rattle.craig_aiger.specs.OutNames.{name_text}
 use Rattle.craig_aiger.specs.RoundTrip.{SameCircuit}
 use Rattle.craig_aiger.specs.declared.out_name.OutName.{OutName}
@@ -100,12 +100,12 @@ module _ (names : List ℕ) (sides : SidesView) (steps : List ToldStep) (root : 
   -- as many outputs as edges
   pub layout_outputs-length : length layout.outputs ≡ length laid.edges
   layout_outputs-length =
-      ap length laid.laid_out.outputs_are ∙ length-map (cut_outputs_from 0 laid.edges) (λ (o : OutName × Edge). (o.0, literal_of laid.laid_out.numbers o.1)) ∙ cut_outputs_from-length 0 laid.edges
+      ap length laid.laid_out.outputs_are ∙ length-map (cut_outputs_from 0 laid.edges) (λ (o : OutName × Edge). (o.0, edge_literal laid.laid_out.numbers o.1)) ∙ cut_outputs_from-length 0 laid.edges
 
   -- each is of an edge
   layout_output-at : (k : ℕ) (o : OutName × ℕ) → slice_get layout.outputs k ≡ Some o → (e : Edge) × (slice_get laid.edges k ≡ Some e) × (slice_get (cut_outputs_from 0 laid.edges) k ≡ Some (cut_output k e))
   layout_output-at k o is =
-      let from = slice_get-from_map (λ (p : OutName × Edge). (p.0, literal_of laid.laid_out.numbers p.1)) (cut_outputs_from 0 laid.edges) k o (ap (λ os. slice_get os k) (sym laid.laid_out.outputs_are) ∙ is) in
+      let from = slice_get-from_map (λ (p : OutName × Edge). (p.0, edge_literal laid.laid_out.numbers p.1)) (cut_outputs_from 0 laid.edges) k o (ap (λ os. slice_get os k) (sym laid.laid_out.outputs_are) ∙ is) in
       let same : 0 + k ≡ k = omega arith in
       let at : slice_get (cut_outputs_from 0 laid.edges) k ≡ option_map (cut_output k) (slice_get laid.edges k) = cut_outputs_from-at 0 laid.edges k ∙ ap (λ n. option_map (cut_output n) (slice_get laid.edges k)) same in
       let found = mapped_some (cut_output k) (slice_get laid.edges k) from.0 (sym at ∙ from.1) in
@@ -116,7 +116,7 @@ module _ (names : List ℕ) (sides : SidesView) (steps : List ToldStep) (root : 
   layout_outputs-names =
       ap (map (λ (o : OutName × ℕ). name_text o.0)) laid.laid_out.outputs_are ∙ kept (cut_outputs_from 0 laid.edges) ∙ cut_outputs_from-names 0 laid.edges
     where
-      kept : (os : List (OutName × Edge)) → map (λ (o : OutName × ℕ). name_text o.0) (map (λ (o : OutName × Edge). (o.0, literal_of laid.laid_out.numbers o.1)) os) ≡ map (λ (o : OutName × Edge). name_text o.0) os
+      kept : (os : List (OutName × Edge)) → map (λ (o : OutName × ℕ). name_text o.0) (map (λ (o : OutName × Edge). (o.0, edge_literal laid.laid_out.numbers o.1)) os) ≡ map (λ (o : OutName × Edge). name_text o.0) os
       kept [] = refl
       kept (o ∷ os) = ap (λ ns. name_text o.0 ∷ ns) (kept os)
 

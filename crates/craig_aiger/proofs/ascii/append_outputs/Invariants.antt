@@ -1,7 +1,0 @@
-use Rattle.std.proofs.Common.{take}
-use Rattle.craig_aiger.specs.Appending.{IsAppended}
-use Rattle.craig_aiger.specs.AsciiText.{numbered_lines, output_line}
-use Rattle.craig_aiger.proofs.ascii.append_outputs.Given as goal
-
-abbrev pub invariant-loop-place : goal.invariant-loop-place
-invariant-loop-place l = IsAppended l.initial.out (numbered_lines output_line 0 (take l.place l.outputs)) l.out

@@ -1,9 +1,0 @@
-use Rattle.std.proofs.Common.{◌≡◌, ◌<◌, ◌^◌, All, map, take}
-use Rattle.craig_aiger.specs.Layouts.{literal_of}
-use Rattle.craig_aiger.proofs.numbering.numbered_outputs.Given as goal
-
-abbrev pub invariant-loop-output : goal.invariant-loop-output
-invariant-loop-output l = record {
-  value : l.numbered.items ≡ map (λ o. (o.0, literal_of l.numbers o.1)) (take l.output-index l.outputs);
-  cuts : All (λ o. o.0.cut < 2 ^ 32) l.numbered.items;
-}

@@ -1,0 +1,7 @@
+use Rattle.std.proofs.Common.{take}
+use Rattle.craig_aiger.specs.Appending.{IsAppended}
+use Rattle.craig_aiger.specs.AsciiText.{numbered_lines, output_symbol}
+use Rattle.craig_aiger.proofs.writing.append_output_symbols.Given as goal
+
+abbrev pub invariant-loop-place : goal.invariant-loop-place
+invariant-loop-place l = IsAppended l.initial.out (numbered_lines output_symbol 0 (take l.place l.outputs)) l.out

@@ -1,0 +1,12 @@
+pub mod Cuts
+pub mod ReadFaults
+pub mod ReadLines
+pub mod ReadViews
+pub mod ReadNames
+pub mod ReadWritten
+pub mod ReadNumbers
+pub mod ReadDepths
+pub mod ReadOrder
+pub mod Ranks
+pub mod ReadFiles
+pub mod Assembled

@@ -1,0 +1,28 @@
+-- Lines with the numbers of their variables.
+use Rattle.std.specs.Prelude.{ℕ, List, map, find, Result, Ok}
+use Rattle.std.specs.Option.{option_map}
+use Rattle.craig_spec.specs.AigerFault.{Fault, FaultKind}
+use Rattle.craig_spec.specs.AigerReading.{Use, gate_use, latch_use, numbered, root_use, unless_found, uses_other}
+use Rattle.craig_spec.specs.Circuit as circuit
+use Rattle.craig_aiger_read.specs.ReadViews.{as_gate, as_latch, as_root}
+use Rattle.craig_aiger_read.specs.declared.gate_line.GateLine.{GateLine}
+use Rattle.craig_aiger_read.specs.declared.latch_line.LatchLine.{LatchLine}
+use Rattle.craig_aiger_read.specs.declared.root_line.RootLine.{RootLine}
+
+-- what is made of each line, or the first that uses what is none of the variables
+abbrev pub lines_numbered : {L X : Type 0} → List ℕ → (L → Use) → (L → X) → List L → Result (List X) Fault
+lines_numbered variables use_of make lines =
+    unless_found FaultKind.Undefined (option_map (λ (u : Use). u.offset) (find (uses_other variables) (map use_of lines))) (Ok (map make lines))
+
+abbrev pub latches_numbered : List ℕ → List LatchLine → Result (List ℕ) Fault
+latches_numbered variables lines = lines_numbered variables (λ l. latch_use (as_latch l)) (λ l. numbered variables l.next) lines
+
+abbrev pub roots_numbered : List ℕ → List RootLine → Result (List ℕ) Fault
+roots_numbered variables lines = lines_numbered variables (λ r. root_use (as_root r)) (λ r. numbered variables r.literal) lines
+
+-- the gate of a line
+abbrev pub numbered_gate : List ℕ → GateLine → circuit.Gate
+numbered_gate variables g = record { left = numbered variables g.left; right = numbered variables g.right }
+
+abbrev pub gates_numbered : List ℕ → List GateLine → Result (List circuit.Gate) Fault
+gates_numbered variables lines = lines_numbered variables (λ g. gate_use (as_gate g)) (numbered_gate variables) lines

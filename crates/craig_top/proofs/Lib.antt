@@ -28,3 +28,4 @@ pub mod OriginalLemmas
 pub mod OverLemmas
 pub mod ListedLiteralsLemmas
 pub mod PutRepliesLemmas
+pub mod CircuitShapeLemmas

@@ -1,3 +1,4 @@
+pub mod CircuitShape
 pub mod CutLayout
 pub mod Emptied
 pub mod Ending

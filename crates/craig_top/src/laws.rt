@@ -6,9 +6,11 @@ ghost use Rattle.craig_spec.specs.Cut.{PartClause};
 ghost use Rattle.craig_spec.specs.Sequence.{IsSequence};
 ghost use Rattle.craig_spec.specs.Truth.{IsUnsatisfiable};
 
+mod circuits;
 mod models;
 mod runs;
 
+pub use circuits::{literals_of_a_circuit, strict_circuits};
 pub use models::literals_of_a_model;
 pub use runs::{bytes_taken, replies_of_a_transcript, replies_put};
 

@@ -4,7 +4,7 @@ ghost use Rattle.std.specs.Prelude.{◌≡◌, ◌≢◌, ℕ, ◌<◌, ◌≤�
 ghost use Rattle.craig_script.specs.declared.line.Line.{Line};
 ghost use Rattle.craig_script.specs.Lines.{line_of, script_lines, whole_lines};
 ghost use Rattle.craig_top.specs.declared.settings.Settings.{Settings};
-ghost use Rattle.craig_top.specs.Ending.{IsComplete, Promise};
+ghost use Rattle.craig_top.specs.Ending.{Promise};
 ghost use Rattle.craig_top.specs.GivenState.{State, start};
 ghost use Rattle.craig_top.specs.PutReplies.{AreFirstReplies, AreReplies, IsAppended, IsBrokenOff, Takes};
 ghost use Rattle.craig_top.specs.Transcript.{BeginsTranscript, BreaksOff, Transcript};

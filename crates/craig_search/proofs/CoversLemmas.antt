@@ -7,7 +7,7 @@ use Rattle.craig_base.specs.Arena.{ArenaView, FlaggedClause, LiveClause, Changes
 use Rattle.craig_proof.specs.Covers.{IsCovering, IsOldOrNext}
 use Rattle.craig_proof.specs.Tracer.{Appends, chain_of, derived_step}
 use Rattle.craig_proof.specs.declared.step.Step.{Step}
-use Rattle.craig_search.proofs.ClauseLemmas.{SameLiterals-refl, SameLiterals-sym}
+use Rattle.craig_spec.proofs.ClauseLemmas.{SameLiterals-refl, SameLiterals-sym}
 use Rattle.craig_search.proofs.ArenaLemmas.{added-held, held-before}
 
 -- covering is kept when a derived clause is told under the next id

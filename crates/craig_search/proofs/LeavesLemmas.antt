@@ -9,7 +9,8 @@ use Rattle.craig_base.specs.Arena.{ArenaView, FlaggedClause, IsReordered, Change
 use Rattle.craig_proof.specs.Covers.{GivesSome}
 use Rattle.craig_watch.specs.Held.{HeldView, IsConsistent, held_clause}
 use Rattle.craig_search.specs.Leaves.{Leaves}
-use Rattle.craig_search.proofs.ClauseLemmas.{SameLiterals-refl, SameLiterals-sym, SameLiterals-trans, clause_value-same, occurs_in_clause-same, passes}
+use Rattle.craig_spec.proofs.ClauseLemmas.{SameLiterals-refl, SameLiterals-sym, SameLiterals-trans, clause_value-same, occurs_in_clause-same}
+use Rattle.craig_spec.proofs.MemberLemmas.{list_any-member}
 use Rattle.craig_search.proofs.ArenaLemmas.{live-below, held-before, added-kept, added-before, added-held}
 
 -- a model of the clauses makes each one true that is found under an id
@@ -34,18 +35,20 @@ IsReordered-refl c = record { literals = SameLiterals-refl c.literals; flags = r
 pub Leaves-start : ModelsLookUp → AreListed → (h : HeldView) → IsConsistent h → Leaves h h
 Leaves-start looks_up listed h ok = record {
   vars = refl;
+  dead = refl;
   given = omega arith;
   stay = λ id c is no. (c, is, IsReordered-refl c);
   older = λ id d low is. (d, is, record { literals = SameLiterals-refl d.literals; learnt = refl });
   learnt = λ id d high is. absurd (let low : id < h.arena.given = live-below h.arena id d ok.arena is in omega arith);
   implied = λ id c is s model. looks_up h.arena s model id c is;
-  variables = λ id x c is occurs. passes (occurs_in_clause x) (clauses_of h.arena) c (listed h.arena id c is) occurs;
+  variables = λ id x c is occurs. list_any-member (occurs_in_clause x) (clauses_of h.arena) c (listed h.arena id c is) occurs;
 }
 
 -- after clauses changed the order of their literals
-pub Leaves-reordered : (start old new : HeldView) → Leaves start old → OnlyReorders old.arena new.arena → new.vars ≡ old.vars → Leaves start new
-Leaves-reordered start old new left only vars = record {
+pub Leaves-reordered : (start old new : HeldView) → Leaves start old → OnlyReorders old.arena new.arena → new.vars ≡ old.vars → new.dead ≡ old.dead → Leaves start new
+Leaves-reordered start old new left only vars dead = record {
   vars = vars ∙ left.vars;
+  dead = dead ∙ left.dead;
   given = (let same : new.arena.given ≡ old.arena.given = only.given in omega (arith, left.given));
   stay = λ id c is no.
       let p = left.stay id c is no in
@@ -67,9 +70,10 @@ Leaves-reordered start old new left only vars = record {
 }
 
 -- after a clause was learnt from held ones
-pub Leaves-learnt : ChainsFollow → ChainsKeepVariables → (start old new : HeldView) (id first : ℕ) (rest : List ChainStep) (f : FlaggedClause) → Leaves start old → new.vars ≡ old.vars → new.arena.given ≡ old.arena.given + 1 → id ≡ old.arena.given → clause_at old.arena id ≡ None → ChangesOnly old.arena new.arena id (Some f) → f.flags.learnt ≡ true → ChainOk (held_clause old.arena) f.literals first rest → Leaves start new
-Leaves-learnt follow variables start old new id first rest f left vars given next fresh only learnt chain = record {
+pub Leaves-learnt : ChainsFollow → ChainsKeepVariables → (start old new : HeldView) (id first : ℕ) (rest : List ChainStep) (f : FlaggedClause) → Leaves start old → new.vars ≡ old.vars → new.dead ≡ old.dead → new.arena.given ≡ old.arena.given + 1 → id ≡ old.arena.given → clause_at old.arena id ≡ None → ChangesOnly old.arena new.arena id (Some f) → f.flags.learnt ≡ true → ChainOk (held_clause old.arena) f.literals first rest → Leaves start new
+Leaves-learnt follow variables start old new id first rest f left vars dead given next fresh only learnt chain = record {
   vars = vars ∙ left.vars;
+  dead = dead ∙ left.dead;
   given = omega (arith, left.given);
   stay = λ k c is no. let p = left.stay k c is no in (p.0, added-kept old.arena new.arena id f fresh only k p.0 p.1, p.2);
   older = λ k d low is. elim (added-before old.arena new.arena id f fresh only k d is) [
@@ -96,6 +100,7 @@ Leaves-learnt follow variables start old new id first rest f left vars given nex
 pub Leaves-numbered : (start old : HeldView) → Leaves start old → Leaves start (record old { arena = with_id old.arena })
 Leaves-numbered start old left = record {
   vars = left.vars;
+  dead = left.dead;
   given = omega (arith, left.given);
   stay = left.stay;
   older = left.older;

@@ -1,30 +1,42 @@
 -- What a search keeps, through each of its steps.
-use Rattle.std.proofs.Common.{◌≡◌, ℕ}
-use Rattle.craig_base.specs.Arena.{OnlyReorders}
+use Rattle.std.proofs.Common.{◌≡◌, ◌∙◌, ℕ, Bool, true, false, Option, refl, sym}
+use Rattle.craig_spec.specs.Chain.{Told}
 use Rattle.craig_watch.specs.Trail.{Trail}
-use Rattle.craig_watch.specs.Held.{HeldView, IsConsistent}
+use Rattle.craig_watch.specs.Held.{HeldView, IsConsistent, IsLengthened}
 use Rattle.craig_search.specs.Searching.{IsSearching}
 use Rattle.craig_search.proofs.LeavesLemmas.{AreListed, Leaves-reordered, Leaves-start, ModelsLookUp}
 use Rattle.craig_search.proofs.JournalLemmas.{IsJournal-reordered, IsJournal-start}
+use Rattle.craig_search.proofs.TellsLemmas.{TellsLearnt-start}
 
-pub IsSearching-start : ModelsLookUp → AreListed → (h : HeldView) → IsConsistent h → IsSearching h h
-IsSearching-start looks_up listed h ok = record {
+pub IsSearching-start : ModelsLookUp → AreListed → (h : HeldView) (told : Option Told) → IsConsistent h → IsSearching h h told told
+IsSearching-start looks_up listed h told ok = record {
   leaves = Leaves-start looks_up listed h ok;
   journal = IsJournal-start h.arena ok.arena;
+  tells = TellsLearnt-start h told;
 }
 
+-- what is not dead stays alive in propagation
+not-dead : (dead : Bool) → (dead ≡ true → false ≡ true) → dead ≡ false
+not-dead true never = sym (never refl)
+not-dead false never = refl
+
+pub alive-lengthened : (old new : HeldView) → IsLengthened old new → (old.dead ≡ true → false ≡ true) → new.dead ≡ false
+alive-lengthened old new longer never = longer.dead ∙ not-dead old.dead never
+
 -- after propagation
-pub IsSearching-reordered : (start old new : HeldView) → IsSearching start old → OnlyReorders old.arena new.arena → new.vars ≡ old.vars → IsSearching start new
-IsSearching-reordered start old new search only vars = record {
-  leaves = Leaves-reordered start old new search.leaves only vars;
-  journal = IsJournal-reordered start.arena.given old.arena new.arena search.journal only;
+pub IsSearching-lengthened : (start old new : HeldView) (before by_now : Option Told) → IsSearching start old before by_now → IsLengthened old new → IsSearching start new before by_now
+IsSearching-lengthened start old new before by_now search longer = record {
+  leaves = Leaves-reordered start old new search.leaves longer.clauses longer.vars longer.dead;
+  journal = IsJournal-reordered start.arena.given old.arena new.arena search.journal longer.clauses;
+  tells = search.tells;
 }
 
 -- after a change of the trail alone
-pub IsSearching-moved : (start old : HeldView) (t : Trail) (level : ℕ) → IsSearching start old → IsSearching start (record old { trail = t; level = level })
-IsSearching-moved start old t level search = record {
+pub IsSearching-moved : (start old : HeldView) (before by_now : Option Told) (t : Trail) (level : ℕ) → IsSearching start old before by_now → IsSearching start (record old { trail = t; level = level }) before by_now
+IsSearching-moved start old before by_now t level search = record {
   leaves = record {
     vars = search.leaves.vars;
+    dead = search.leaves.dead;
     given = search.leaves.given;
     stay = search.leaves.stay;
     older = search.leaves.older;
@@ -33,4 +45,5 @@ IsSearching-moved start old t level search = record {
     variables = search.leaves.variables;
   };
   journal = search.journal;
+  tells = search.tells;
 }

@@ -1,11 +1,11 @@
 -- What a search tells a tracer.
-use Rattle.std.proofs.Common.{◌≡◌, inl, inr, ℕ, not, ◌&&◌, eqb, List, [], ◌∷◌, ◌++◌, Contains, Option, Some, None, IsSome, refl, sym, subst, ◌∙◌, arith}
+use Rattle.std.proofs.Common.{◌≡◌, inl, inr, ℕ, List, [], ◌∷◌, ◌++◌, Contains, Option, Some, None, IsSome, refl, sym, subst, ◌∙◌, arith}
 use Rattle.std.specs.Option.{option_map}
-use Rattle.std.proofs.lemmas.Bool.{cases_lt, or_left}
-use Rattle.std.proofs.lemmas.List.Folds.{list_any-append}
-use Rattle.std.proofs.lemmas.List.Elements.{Contains-push_cases}
+use Rattle.std.proofs.lemmas.Bool.{cases_lt}
+use Rattle.std.proofs.lemmas.List.Elements.{Contains-append_left, Contains-push_cases}
 use Rattle.craig_spec.specs.Literal.{Clause}
-use Rattle.craig_spec.specs.Chain.{ChainOk, ChainStep, Derived, Told, ToldStep, IsUnforgotten, antecedents, with_step}
+use Rattle.craig_spec.specs.Chain.{ChainOk, ChainStep, Derived, Told, ToldStep, antecedents, with_step}
+use Rattle.craig_spec.proofs.ToldLemmas.{IsUnforgotten-pushed}
 use Rattle.craig_base.specs.Arena.{FlaggedClause, clause_at}
 use Rattle.craig_proof.specs.Tracer.{Appends, chain_of, derived_step}
 use Rattle.craig_proof.specs.declared.step.Step.{Step}
@@ -18,12 +18,9 @@ use Rattle.craig_search.proofs.ArenaLemmas.{flagged}
 pub Tells-start : (lent : ℕ → Option Clause) (first : ℕ) (IsUnit : ℕ → Type 0) (t : Told) → Tells lent first IsUnit t t
 Tells-start lent first IsUnit t = record {
   steps = λ s here. inl (s, here, refl, refl, refl, λ was. was);
+  stay = λ s here. (s, here, refl, refl, refl);
   unforgotten = λ id kept none. kept;
 }
-
-unforgotten-push : (steps : List ToldStep) (s : ToldStep) (id : ℕ) → IsUnforgotten steps id → IsUnforgotten (steps ++ s ∷ []) id
-unforgotten-push steps s id kept =
-    list_any-append (λ r. eqb r.id id && not r.forgotten) steps (s ∷ []) ∙ or_left _ _ kept
 
 -- after one more step
 pub Tells-pushed : (lent : ℕ → Option Clause) (first : ℕ) (IsUnit : ℕ → Type 0) (t u : Told) (s : ToldStep) → Tells lent first IsUnit t u → IsOfSearch lent first IsUnit s → Tells lent first IsUnit t (with_step u s)
@@ -32,7 +29,8 @@ Tells-pushed lent first IsUnit t u s tells of = record {
     | inl was ↦ tells.steps r was
     | inr same ↦ inr (subst (IsOfSearch lent first IsUnit) same of)
   ];
-  unforgotten = λ id kept none. unforgotten-push u.steps s id (tells.unforgotten id kept none);
+  stay = λ r here. let q = tells.stay r here in (q.0, Contains-append_left u.steps (s ∷ []) q.0 q.1, q.2, q.3, q.4);
+  unforgotten = λ id kept none. IsUnforgotten-pushed u.steps s id (tells.unforgotten id kept none);
 }
 
 -- what was told before the step

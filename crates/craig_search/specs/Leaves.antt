@@ -10,24 +10,37 @@ use Rattle.craig_order.specs.Order.{OrderView, FreeAreGivenBack}
 use Rattle.craig_search.specs.declared.verdict.Verdict.{Verdict}
 use Rattle.craig_search.specs.declared.verdict.Verdict.TheVariants.{Model, Failed, Limit}
 
--- the same literals in any order, learnt or not as before; a learnt clause may be marked anew
+-- the same clause, which may be marked anew
 pub record IsSameClause (c d : FlaggedClause) : Type 0 where
+  -- the same literals in any order
   pub literals : SameLiterals c.literals d.literals
+  -- learnt or not as before
   pub learnt : d.flags.learnt ≡ c.flags.learnt
 
--- clauses that are not learnt stay as they are, each clause follows from those before and has variables of theirs alone, and each new one is learnt
+-- what a search leaves of the clauses that were held, and what it adds to them
 pub record Leaves (old new : HeldView) : Type 0 where
+  -- the known variables are the same
   pub vars : new.vars ≡ old.vars
+  -- and so is whether memory was refused
+  pub dead : new.dead ≡ old.dead
+  -- ids are given on
   pub given : old.arena.given ≤ new.arena.given
+  -- a clause that is not learnt stays as it is, but for the order of its literals
   pub stay : (id : ℕ) (c : FlaggedClause) → clause_at old.arena id ≡ Some c → c.flags.learnt ≡ false → (d : FlaggedClause) × (clause_at new.arena id ≡ Some d) × IsReordered c d
+  -- a clause under an older id was held before
   pub older : (id : ℕ) (d : FlaggedClause) → id < old.arena.given → clause_at new.arena id ≡ Some d → (c : FlaggedClause) × (clause_at old.arena id ≡ Some c) × IsSameClause c d
+  -- a clause under a newer id is learnt
   pub learnt : (id : ℕ) (d : FlaggedClause) → old.arena.given ≤ id → clause_at new.arena id ≡ Some d → d.flags.learnt ≡ true
+  -- each clause follows from those that were held
   pub implied : (id : ℕ) (c : Clause) → held_clause new.arena id ≡ Some c → Implies (clauses_of old.arena) (λ s. IsTrue (clause_value s c))
+  -- and has variables of theirs alone
   pub variables : (id x : ℕ) (c : Clause) → held_clause new.arena id ≡ Some c → IsTrue (occurs_in_clause x c) → Occurs x (clauses_of old.arena)
 
--- the order knows the variables that are held, and every free one was given back
+-- the order is ready for a search
 pub record IsReady (h : HeldView) (o : OrderView) : Type 0 where
+  -- it knows the variables that are held
   pub known : length o.given_back ≡ h.vars
+  -- and every free one was given back to it
   pub given_back : FreeAreGivenBack h o
 
 -- by the verdict: a model stays on the trail, and else the level is 0 again

@@ -1,4 +1,5 @@
 pub mod Verdict
 pub mod Leaves
 pub mod Tells
+pub mod Search
 pub mod Searching

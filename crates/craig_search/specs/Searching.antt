@@ -4,7 +4,8 @@ use Rattle.craig_spec.specs.Literal.{Clause}
 use Rattle.craig_spec.specs.Chain.{ChainOk, Told}
 use Rattle.craig_base.specs.Arena.{ArenaView, with_clause, with_id}
 use Rattle.craig_base.specs.LemmaRule.{ContainsClause}
-use Rattle.craig_watch.specs.Held.{HeldView, held_clause}
+use Rattle.craig_watch.specs.Held.{HeldView, IsConsistent, held_clause}
+use Rattle.craig_proof.specs.Covers.{IsCovering}
 use Rattle.craig_proof.specs.Tracer.{Appends, chain_of, derived_step}
 use Rattle.craig_proof.specs.declared.step.Step.{Step}
 use Rattle.craig_base.specs.declared.clause_id.ClauseId.{ClauseId}
@@ -18,36 +19,73 @@ use Rattle.craig_search.specs.Tells.{Tells}
 abbrev pub IsNew : ArenaView → Clause → Type 0
 IsNew a c = (id : ℕ) (d : Clause) → held_clause a id ≡ Some d → ¬ ContainsClause c d
 
--- a clause is held under each id from the first on, and it contains no clause of a lower id
+-- the clauses that are held under the ids from the first on, which a search has learnt
 pub record IsJournal (first : ℕ) (a : ArenaView) : Type 0 where
+  -- there is one under each id
   pub stand : (id : ℕ) → first ≤ id → id < a.given → (c : Clause) × (held_clause a id ≡ Some c)
+  -- it contains no clause of a lower id
   pub new : (id other : ℕ) (c d : Clause) → first ≤ id → other < id → held_clause a id ≡ Some c → held_clause a other ≡ Some d → ¬ ContainsClause c d
 
 -- the arena with the learnt clause under the next id
 abbrev pub with_learnt : ArenaView → Learnt → ArenaView
 with_learnt a l = with_clause a (record { literals = l.lits; flags = record { learnt = true; kept = false; glue = l.glue } })
 
--- from one state of the held clauses to a later one: what a search leaves of them, and what it has learnt
-pub record IsSearching (start now : HeldView) : Type 0 where
-  pub leaves : Leaves start now
-  pub journal : IsJournal start.arena.given now.arena
-
 -- where both are told, only derived clauses were told since, on the clauses of the start and on one another
 abbrev pub TellsLearnt : HeldView → Option Told → Option Told → Type 0
 TellsLearnt start before after = (t u : Told) → before ≡ Some t → after ≡ Some u → Tells (held_clause start.arena) start.arena.given (λ id. ⊥) t u
 
--- the empty clause was told under the next id, with its chain over the held clauses
-pub record IsRefutation (old new : HeldView) (root : ℕ) (before after : Option Told) : Type 0 where
+-- what a search has done from its start until now, where the tracer was told this before and that by now
+pub record IsSearching (start now : HeldView) (before by_now : Option Told) : Type 0 where
+  -- the clauses that it leaves
+  pub leaves : Leaves start now
+  -- the clauses that it has learnt
+  pub journal : IsJournal start.arena.given now.arena
+  -- what it has told
+  pub tells : TellsLearnt start before by_now
+
+-- a step of a search, whatever its start was
+abbrev pub GoesOn : HeldView → HeldView → Option Told → Option Told → Type 0
+GoesOn old new told_old told_new = (start : HeldView) (before : Option Told) → IsSearching start old before told_old → IsSearching start new before told_new
+
+-- what is true at each turn of a search
+pub record IsUnderWay (h : HeldView) (o : OrderView) (told : Option Told) : Type 0 where
+  -- the clauses and their trail are as they are after every call
+  pub consistent : IsConsistent h
+  -- the order has each free variable
+  pub ready : IsReady h o
+  -- a tracer that tells its meaning covers the held clauses
+  pub covers : IsCovering told (held_clause h.arena) h.arena.given
+
+-- the empty clause was told
+pub record TellsEmptyClause (old new : HeldView) (root : ℕ) (before after : Option Told) : Type 0 where
+  -- one id more is given, and nothing else has changed
   pub numbered : new ≡ record old { arena = with_id old.arena }
+  -- it is the root
   pub next : root ≡ old.arena.given
+  -- no clause is held under it
   pub fresh : held_clause old.arena root ≡ None
+  -- the chain of the empty clause, over the held clauses
   pub first : ℕ
+  -- its steps
   pub rest : List Step
+  -- it gives no literal
   pub chain : ChainOk (held_clause old.arena) [] first (chain_of rest)
+  -- it was told under the root
   pub told : Appends before after (derived_step root [] first rest)
 
--- by the answer of a whole search: a model on the trail, or a refutation from the last state, which was at level 0
-abbrev pub IsOutcome : HeldView → HeldView → OrderView → Option Told → Option Told → Option ClauseId → Type 0
-IsOutcome start end o before after None = IsSearching start end × TellsLearnt start before after × IsFound end [] × (length o.given_back ≡ end.vars)
-IsOutcome start end o before after (Some root) =
-    (last : HeldView) × (told : Option Told) × IsSearching start last × TellsLearnt start before told × IsRefutation last end root.0 told after × (last.level ≡ 0) × IsReady last o
+-- the end of a search without assumptions: a model on the trail, or the empty clause, told at level 0
+abbrev pub EndsWith : HeldView → HeldView → OrderView → Option Told → Option Told → Option ClauseId → Type 0
+EndsWith start end o before after None = IsSearching start end before after × IsFound end [] × (length o.given_back ≡ end.vars)
+EndsWith start end o before after (Some root) =
+    (last : HeldView) × (by_then : Option Told) × IsSearching start last before by_then × TellsEmptyClause last end root.0 by_then after × (last.level ≡ 0) × IsReady last o
+
+-- what a search without assumptions leaves
+pub record IsOutcome (start end : HeldView) (o : OrderView) (before after : Option Told) (root : Option ClauseId) : Type 0 where
+  -- a model, or the root of a refutation
+  pub ends : EndsWith start end o before after root
+  -- the clauses and their trail are as they are after every call
+  pub consistent : IsConsistent end
+  -- memory was not refused
+  pub alive : end.dead ≡ false
+  -- a tracer that tells its meaning covers the held clauses
+  pub covers : IsCovering after (held_clause end.arena) end.arena.given

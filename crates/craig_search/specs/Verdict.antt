@@ -26,25 +26,34 @@ at_places assumptions places = flat_map (λ p. option_to_list (slice_get assumpt
 abbrev pub units : Assumptions → List Clause
 units assumptions = map (λ a. a.1 ∷ []) assumptions
 
--- the places rise, and each is the first one of its literal
+-- places of different assumptions
 pub record AreFirstPlaces (assumptions : Assumptions) (places : List ℕ) : Type 0 where
+  -- they rise
   pub rising : IsStrictlyIncreasing places
+  -- each is the first one of its literal
   pub first : All (λ p. (a : Part × Literal) × (slice_get assumptions p ≡ Some a) × ((q : ℕ) (b : Part × Literal) → q < p → slice_get assumptions q ≡ Some b → b.1 ≢ a.1)) places
 
--- every variable is assigned, and all held clauses and assumptions are true
+-- the trail is a model
 pub record IsFound (h : HeldView) (assumptions : Assumptions) : Type 0 where
+  -- every variable is assigned
   pub assigned : (v : ℕ) → v < h.vars → IsAssigned h.trail v
+  -- all held clauses are true
   pub clauses : (id : ℕ) (c : Clause) → held_clause h.arena id ≡ Some c → HasTrue h.trail c
+  -- and so are the assumptions
   pub assumed : All (λ a. value_under h.trail a.1 ≡ True) assumptions
 
 -- no assignment makes the clauses that were held and the assumptions at the places true
 pub record IsRefuted (h : HeldView) (assumptions : Assumptions) (places : List ℕ) : Type 0 where
+  -- the places are those of different assumptions
   pub first_places : AreFirstPlaces assumptions places
+  -- their literals and the clauses are not true together
   pub contradictory : AreContradictory (clauses_of h.arena) (units (at_places assumptions places))
 
 -- the limit was met by lemmas over the clauses that were held
 pub record IsLimited (h : HeldView) (limit : Option ℕ) (lemmas : List Clause) : Type 0 where
+  -- there are as many as the limit
   pub many : limit ≡ Some (length lemmas)
+  -- they meet the rule
   pub rule : MeetsLemmaRule (clauses_of h.arena) lemmas
 
 -- what the verdict says of the clauses that were held, and of the trail

@@ -1,11 +1,7 @@
 //! The search itself: propagation, decisions and conflicts in turn.
-ghost use Rattle.std.specs.Prelude.{◌≡◌, ◌≢◌, ◌<◌, [], Some, None, All, IfOk, OnOk, is_some, length};
-ghost use Rattle.craig_watch.specs.Held.{IsConsistent, held_clause};
-ghost use Rattle.craig_proof.specs.Covers.{IsCovering};
-ghost use Rattle.craig_search.specs.Verdict.{IsVerdict};
-ghost use Rattle.craig_search.specs.Leaves.{Leaves, IsReady, IsAtRest};
-ghost use Rattle.craig_search.specs.Tells.{IsToldOf};
-ghost use Rattle.craig_search.specs.Searching.{IsOutcome};
+ghost use Rattle.std.specs.Prelude.{◌≡◌, ◌≢◌, ◌<◌, [], true, Some, None, All, IfOk, IsErr, is_some};
+ghost use Rattle.craig_search.specs.Search.{IsSearched, MayBegin};
+ghost use Rattle.craig_search.specs.Searching.{IsOutcome, IsUnderWay};
 
 use crate::learning::learn;
 use crate::refuting::refuted;
@@ -27,7 +23,7 @@ use std::alloc::{AllocError, Global};
 /// back to level 0. After every other verdict the level is 0, and all free variables were given back again.
 ///
 /// An `AllocError` comes only for want of memory. After it nothing is promised of what was lent but that its calls are
-/// safe.
+/// safe, and that the same variables are known. Clauses whose memory was refused before are not searched.
 ///
 /// No assumption and no limit can be given yet.
 pub fn search<T: Tracer>(
@@ -38,25 +34,22 @@ pub fn search<T: Tracer>(
     assumptions: &[(Part, Lit)],
     limit: Option<u64>,
 ) -> Result<Verdict, AllocError>
-    requires level { held.old.level ≡ 0 }
-    requires ready { IsReady held.old order.old }
+    requires begins { MayBegin held.old order.old (T.told tracer.old) }
     requires known { All (λ a. a.1.var < held.old.vars) assumptions.now }
     requires limit { limit ≢ Some 0 }
-    requires covers { IsCovering (T.told tracer.old) (held_clause held.old.arena) held.old.arena.given }
     requires no_assumption { assumptions.now ≡ [] }
     requires no_limit { limit ≡ None }
-    ensures verdict { IfOk result (λ v. IsVerdict held.old held.new assumptions.now limit v) }
-    ensures at_rest { IfOk result (λ v. IsAtRest held.new order.new v) }
-    ensures leaves { OnOk result (Leaves held.old held.new) }
-    ensures consistent { OnOk result (IsConsistent held.new) }
-    ensures covers { OnOk result (IsCovering (T.told tracer.new) (held_clause held.new.arena) held.new.arena.given) }
-    ensures told { IfOk result (λ v. IsToldOf held.old held.new assumptions.now v (T.told tracer.old) (T.told tracer.new)) }
+    ensures searched { IfOk result (IsSearched held.old held.new order.new (T.told tracer.old) (T.told tracer.new) assumptions.now limit) }
+    ensures vars { held.new.vars ≡ held.old.vars }
+    ensures order { order.new.dead ≡ order.old.dead }
+    ensures refused { held.old.dead ≡ true → IsErr result }
     ensures tells { is_some (T.told tracer.new) ≡ is_some (T.told tracer.old) }
     ensures kept { T.kept tracer.new ≡ T.kept tracer.old }
 {
     craig_proof::laws::chain_follows();
     craig_proof::laws::chain_variables();
-    prove!(assumptions.is_empty() && limit.is_none() && held.level() == 0);
+    let level = held.level();
+    prove!(assumptions.is_empty() && limit.is_none() && level == 0);
     let outcome = run(held, order, tracer, &mut Analysis::new(alloc))?;
     match outcome {
         None => Ok(Verdict::Model),
@@ -67,19 +60,18 @@ pub fn search<T: Tracer>(
     }
 }
 
-// Searches until no variable is free, or until a clause is false at level 0, and gives the id of the empty clause then.
+/// Searches until no variable is free, or until a clause is false at level 0, and gives the id of the empty clause then.
 fn run<T: Tracer>(
     held: &mut Held,
     order: &mut Order,
     tracer: &mut T,
     analysis: &mut Analysis,
 ) -> Result<Option<ClauseId>, AllocError>
-    requires consistent { IsConsistent held.old }
-    requires ready { IsReady held.old order.old }
-    requires covers { IsCovering (T.told tracer.old) (held_clause held.old.arena) held.old.arena.given }
+    requires { IsUnderWay held.old order.old (T.told tracer.old) }
     ensures outcome { IfOk result (IsOutcome held.old held.new order.new (T.told tracer.old) (T.told tracer.new)) }
-    ensures consistent { OnOk result (IsConsistent held.new) }
-    ensures covers { OnOk result (IsCovering (T.told tracer.new) (held_clause held.new.arena) held.new.arena.given) }
+    ensures vars { held.new.vars ≡ held.old.vars }
+    ensures order { order.new.dead ≡ order.old.dead }
+    ensures refused { held.old.dead ≡ true → IsErr result }
     ensures tells { is_some (T.told tracer.new) ≡ is_some (T.told tracer.old) }
     ensures kept { T.kept tracer.new ≡ T.kept tracer.old }
 {

@@ -10,12 +10,13 @@ use craig_base::Lit;
 use craig_order::Order;
 use craig_watch::Held;
 
-// Goes back to a level, and gives the variables that become free back to the order.
+/// Goes back to a level, and gives the variables that become free back to the order.
 pub(crate) fn go_back(held: &mut Held, order: &mut Order, level: u32)
     requires below { level ≤ held.old.level }
     requires ready { IsReady held.old order.old }
     ensures back { held.new ≡ record held.old { trail = part_up_to level held.old.trail; level = level } }
     ensures ready { IsReady held.new order.new }
+    ensures dead { order.new.dead ≡ order.old.dead }
     ensures consistent { IsConsistent held.new }
 {
     craig_watch::laws::entries_have_places();
@@ -25,12 +26,13 @@ pub(crate) fn go_back(held: &mut Held, order: &mut Order, level: u32)
     held.back_to(level);
 }
 
-// Saves the phases of the variables, and gives them back.
+/// Saves the phases of the variables, and gives them back.
 fn give_back_each(order: &mut Order, lits: &[Lit])
     requires { All (λ l. l.var < length order.old.given_back) lits.now }
     ensures known { length order.new.given_back ≡ length order.old.given_back }
     ensures kept { (v : ℕ) → is_given_back order.old v ≡ true → is_given_back order.new v ≡ true }
     ensures given { All (λ l. is_given_back order.new l.var ≡ true) lits.now }
+    ensures dead { order.new.dead ≡ order.old.dead }
 {
     for lit in lits {
         order.save(*lit);
@@ -38,7 +40,7 @@ fn give_back_each(order: &mut Order, lits: &[Lit])
     }
 }
 
-// The place of the first literal on the trail of a level above this one, or the number of the literals.
+/// The place of the first literal on the trail of a level above this one, or the number of the literals.
 fn first_above(held: &Held, level: u32) -> usize
     ensures within { result ≤ length held.now.trail }
     ensures upto { (k : ℕ) (d : TrailEntry) → k < result → (slice_index_or held.now.trail k d).level ≤ level }

@@ -1,3 +1,4 @@
+//! The list of the clauses that a search has learnt.
 ghost use Rattle.std.specs.Prelude.{◌≡◌};
 
 use craig_base::Lits;

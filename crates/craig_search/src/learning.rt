@@ -1,11 +1,9 @@
 //! Learning from a clause that is false.
-ghost use Rattle.std.specs.Prelude.{◌≡◌, ◌<◌, ◌+◌, Option, All, OnOk, is_some, length};
-ghost use Rattle.craig_spec.specs.Chain.{Told};
-ghost use Rattle.craig_watch.specs.Held.{HeldView, IsConsistent, IsFalsified, MayBeHeld, held_clause};
+ghost use Rattle.std.specs.Prelude.{◌≡◌, ◌<◌, ◌+◌, All, OnOk, is_some, length};
+ghost use Rattle.craig_watch.specs.Held.{IsConsistent, IsFalsified, MayBeHeld, held_clause};
 ghost use Rattle.craig_proof.specs.Covers.{IsCovering};
 ghost use Rattle.craig_analyze.specs.Learnt.{IsDerived};
-ghost use Rattle.craig_search.specs.Leaves.{IsReady};
-ghost use Rattle.craig_search.specs.Searching.{IsNew, IsSearching, TellsLearnt, with_learnt};
+ghost use Rattle.craig_search.specs.Searching.{GoesOn, IsNew, IsUnderWay, with_learnt};
 
 use crate::going_back::go_back;
 use craig_analyze::{Analysis, Learnt};
@@ -15,7 +13,7 @@ use craig_proof::Tracer;
 use craig_watch::Held;
 use std::alloc::AllocError;
 
-// Learns a clause from one that is false above level 0, goes back to where it forces its first literal, and holds it.
+/// Learns a clause from one that is false above level 0, goes back to where it forces its first literal, and holds it.
 pub(crate) fn learn<T: Tracer>(
     held: &mut Held,
     order: &mut Order,
@@ -25,15 +23,12 @@ pub(crate) fn learn<T: Tracer>(
 ) -> Result<(), AllocError>
     requires level { 0 < held.old.level }
     requires conflict { IsFalsified held.old conflict.0 }
-    requires consistent { IsConsistent held.old }
-    requires ready { IsReady held.old order.old }
-    requires covers { IsCovering (T.told tracer.old) (held_clause held.old.arena) held.old.arena.given }
-    ensures searching { OnOk result ((start : HeldView) → IsSearching start held.old → IsSearching start held.new) }
-    ensures learnt { OnOk result ((start : HeldView) (before : Option Told) → IsSearching start held.old → TellsLearnt start before (T.told tracer.old) → TellsLearnt start before (T.told tracer.new)) }
+    requires under_way { IsUnderWay held.old order.old (T.told tracer.old) }
+    ensures goes_on { OnOk result (GoesOn held.old held.new (T.told tracer.old) (T.told tracer.new)) }
     ensures given { OnOk result (held.new.arena.given ≡ held.old.arena.given + 1) }
-    ensures consistent { OnOk result (IsConsistent held.new) }
-    ensures ready { OnOk result (IsReady held.new order.new) }
-    ensures covers { OnOk result (IsCovering (T.told tracer.new) (held_clause held.new.arena) held.new.arena.given) }
+    ensures under_way { OnOk result (IsUnderWay held.new order.new (T.told tracer.new)) }
+    ensures vars { held.new.vars ≡ held.old.vars }
+    ensures order { order.new.dead ≡ order.old.dead }
     ensures tells { is_some (T.told tracer.new) ≡ is_some (T.told tracer.old) }
     ensures kept { T.kept tracer.new ≡ T.kept tracer.old }
 {
@@ -47,7 +42,7 @@ pub(crate) fn learn<T: Tracer>(
     Ok(())
 }
 
-// Raises the scores of the variables.
+/// Raises the scores of the variables.
 fn raise(order: &mut Order, lits: &[Lit])
     requires { All (λ l. l.var < length order.old.given_back) lits.now }
     ensures { order.new ≡ order.old }
@@ -58,7 +53,7 @@ fn raise(order: &mut Order, lits: &[Lit])
     order.decay();
 }
 
-// Holds a learnt clause, and tells it with its chain.
+/// Holds a learnt clause, and tells it with its chain.
 fn hold_learnt<T: Tracer>(
     held: &mut Held,
     tracer: &mut T,
@@ -69,8 +64,8 @@ fn hold_learnt<T: Tracer>(
     requires fits { MayBeHeld held.old learnt.now.lits }
     requires new { IsNew held.old.arena learnt.now.lits }
     requires covers { IsCovering (T.told tracer.old) (held_clause held.old.arena) held.old.arena.given }
-    ensures searching { OnOk result ((start : HeldView) → IsSearching start held.old → IsSearching start held.new) }
-    ensures learnt { OnOk result ((start : HeldView) (before : Option Told) → IsSearching start held.old → TellsLearnt start before (T.told tracer.old) → TellsLearnt start before (T.told tracer.new)) }
+    ensures goes_on { OnOk result (GoesOn held.old held.new (T.told tracer.old) (T.told tracer.new)) }
+    ensures vars { held.new.vars ≡ held.old.vars }
     ensures held { OnOk result (held.new ≡ record held.old { arena = with_learnt held.old.arena learnt.now }) }
     ensures consistent { OnOk result (IsConsistent held.new) }
     ensures covers { OnOk result (IsCovering (T.told tracer.new) (held_clause held.new.arena) held.new.arena.given) }

@@ -1,3 +1,4 @@
+//! Places in a list of assumptions.
 ghost use Rattle.std.specs.Prelude.{◌≡◌, []};
 
 use std::alloc::Global;
@@ -18,7 +19,7 @@ impl Model for Places {
 }
 
 impl Places {
-    // No place, which takes no memory.
+    /// No place, which takes no memory.
     pub(crate) fn none(alloc: Global) -> Places
         ensures { result ≡ [] }
     {

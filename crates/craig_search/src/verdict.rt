@@ -1,3 +1,4 @@
+//! The answer of a search.
 use crate::{Journal, Places};
 use craig_base::ClauseId;
 

@@ -1,6 +1,7 @@
 -- The answer after a search.
-use Rattle.std.proofs.Common.{◌≡◌, ◌⊎◌, inl, inr, ℕ, Bool, true, false, cond, not, List, [], ◌∷◌, ◌++◌, Contains, Option, Some, refl, sym, ap, subst, ◌∙◌, arith}
+use Rattle.std.proofs.Common.{◌≡◌, ◌⊎◌, inl, inr, ℕ, Bool, true, false, cond, not, List, [], ◌∷◌, ◌++◌, Contains, Option, Some, Result, Ok, Err, refl, sym, ap, subst, ◌∙◌, arith}
 use Rattle.std.specs.Option.{option_map}
+use Rattle.std.specs.Result.{IfOk, OnOk}
 use Rattle.std.proofs.lemmas.List.Elements.{All-contains, Contains-append_cases}
 use Rattle.craig_spec.specs.Literal.{Clause, Literal, negation}
 use Rattle.craig_spec.specs.Truth.{Assignment, IsModel, clause_value, literal_value, variable_value}
@@ -18,13 +19,18 @@ use Rattle.craig_search.specs.Leaves.{Leaves}
 use Rattle.craig_search.specs.Verdict.{Assumptions, IsFound, IsVerdict, units}
 use Rattle.craig_solver.specs.declared.answer.Answer.{Answer}
 use Rattle.craig_solver.specs.declared.answer.Answer.TheVariants as answer
-use Rattle.craig_solver.specs.Answer.{IsAnswer}
 use Rattle.craig_solver.specs.Settling.{AreValuesOf, IsAnswerFor}
-use Rattle.craig_solver.specs.Solver.{accepted_clauses}
+use Rattle.craig_solver.specs.Answer.{IsAnswer, accepted_clauses}
 use Rattle.craig_solver.specs.State.{AreHeldFor}
-use Rattle.craig_solver.proofs.ClauseLemmas.{SameLiterals-sym, SameLiterals-trans, clause_value-same, passes}
-use Rattle.craig_solver.proofs.ListLemmas.{Contains-from_map, member-all}
+use Rattle.craig_spec.proofs.ClauseLemmas.{SameLiterals-sym, SameLiterals-trans, clause_value-member, clause_value-same}
+use Rattle.craig_spec.proofs.MemberLemmas.{Contains-from_image, Contains-front}
+use Rattle.craig_solver.proofs.ListLemmas.{list_all-members}
 use Rattle.craig_solver.proofs.SearchedLemmas.{AreLookedUp, ModelsOfArena, held-model, held-occurs}
+
+-- what is said of an answer, and what is said where there is one
+pub IfOk-both : {T E Q : Type 0} {P R : T → Type 0} (r : Result T E) → ((x : T) → P x → Q → R x) → IfOk r P → OnOk r Q → IfOk r R
+IfOk-both (Ok x) both p q = both x p q
+IfOk-both (Err e) both p q = tt
 
 -- the list of an arena's clauses has each one that is found
 abbrev pub AreListed : Type 0
@@ -48,8 +54,8 @@ opposite-cases s l false is = inr (sign-cases l.negated (variable_value s l.var)
 tautology-true : (s : Assignment) (c : Clause) → IsTautology c → clause_value s c ≡ true
 tautology-true s c tautology =
     elim (opposite-cases s tautology.0 (literal_value s tautology.0) refl) [
-      | inl one ↦ passes (literal_value s) c tautology.0 tautology.1 one
-      | inr other ↦ passes (literal_value s) c (negation tautology.0) tautology.2 other
+      | inl one ↦ clause_value-member s c tautology.0 tautology.1 one
+      | inr other ↦ clause_value-member s c (negation tautology.0) tautology.2 other
     ]
 
 -- what is true on the trail after a search is true under the values
@@ -61,7 +67,7 @@ module _ (accepted : List (Part × Clause)) (h n : HeldView) (vars : ℕ) (are :
       let d = left.stay o.id o.clause o.live o.not_learnt in
       let l = found.clauses o.id d.0.literals (ap (option_map (λ (f : FlaggedClause). f.literals)) d.1) in
       let same = SameLiterals-trans p.1 o.clause.literals d.0.literals o.literals d.2.literals in
-      clause_value-same s d.0.literals p.1 (SameLiterals-sym p.1 d.0.literals same) (passes (literal_value s) d.0.literals l.0 l.1 (is.literals l.0 l.2))
+      clause_value-same s d.0.literals p.1 (SameLiterals-sym p.1 d.0.literals same) (clause_value-member s d.0.literals l.0 l.1 (is.literals l.0 l.2))
 
   accepted-true : (values : List Bool) (assumptions : Assumptions) → AreValuesOf n.vars n.trail values → IsFound n assumptions → (p : Part × Clause) → Contains accepted p → clause_value (assignment_of_values values) p.1 ≡ true
   accepted-true values assumptions is found p here =
@@ -71,18 +77,18 @@ module _ (accepted : List (Part × Clause)) (h n : HeldView) (vars : ℕ) (are :
   unit-true : (values : List Bool) (assumptions : Assumptions) → AreValuesOf n.vars n.trail values → IsFound n assumptions → (a : Part × Literal) → Contains assumptions a → clause_value (assignment_of_values values) (a.1 ∷ []) ≡ true
   unit-true values assumptions is found a here =
       let s = assignment_of_values values in
-      passes (literal_value s) (a.1 ∷ []) a.1 (0, omega arith, refl) (is.literals a.1 (All-contains (λ (b : Part × Literal). value_under n.trail b.1 ≡ True) assumptions a found.assumed here))
+      clause_value-member s (a.1 ∷ []) a.1 (Contains-front a.1 []) (is.literals a.1 (All-contains (λ (b : Part × Literal). value_under n.trail b.1 ≡ True) assumptions a found.assumed here))
 
   model-searched : (values : List Bool) (assumptions : Assumptions) → AreValuesOf n.vars n.trail values → IsFound n assumptions → IsModel (assignment_of_values values) (accepted_clauses accepted ++ units assumptions)
   model-searched values assumptions is found =
       let s = assignment_of_values values in
-      member-all (clause_value s) (accepted_clauses accepted ++ units assumptions) (λ c here. elim (Contains-append_cases (accepted_clauses accepted) (units assumptions) c here) [
+      list_all-members (clause_value s) (accepted_clauses accepted ++ units assumptions) (λ c here. elim (Contains-append_cases (accepted_clauses accepted) (units assumptions) c here) [
         | inl clause ↦
-            let p = Contains-from_map (λ (a : Part × Clause). a.1) accepted c clause in
-            subst (λ (d : Clause). clause_value s d ≡ true) p.2 (accepted-true values assumptions is found p.0 p.1)
+            let p = Contains-from_image (λ (a : Part × Clause). a.1) accepted c clause in
+            subst (λ (d : Clause). clause_value s d ≡ true) (sym p.2) (accepted-true values assumptions is found p.0 p.1)
         | inr unit ↦
-            let a = Contains-from_map (λ (b : Part × Literal). b.1 ∷ []) assumptions c unit in
-            subst (λ (d : Clause). clause_value s d ≡ true) a.2 (unit-true values assumptions is found a.0 a.1)
+            let a = Contains-from_image (λ (b : Part × Literal). b.1 ∷ []) assumptions c unit in
+            subst (λ (d : Clause). clause_value s d ≡ true) (sym a.2) (unit-true values assumptions is found a.0 a.1)
       ])
 
 -- lemmas over the held clauses are lemmas over the accepted ones
@@ -92,8 +98,8 @@ rule-searched models looks_up listed accepted a vars lemmas ok are rule = record
   known = λ k d within x occurs. held-occurs looks_up accepted a vars ok are x (rule.known k d within x occurs);
   not_tautology = rule.not_tautology;
   new = λ k d within c here contains.
-      let p = Contains-from_map (λ (b : Part × Clause). b.1) accepted c here in
-      let inside = λ (l : Literal) (has : Contains p.0.1 l). contains l (subst (λ (e : Clause). Contains e l) p.2 has) in
+      let p = Contains-from_image (λ (b : Part × Clause). b.1) accepted c here in
+      let inside = λ (l : Literal) (has : Contains p.0.1 l). contains l (subst (λ (e : Clause). Contains e l) (sym p.2) has) in
       let o = are.held p.0 p.1 (λ tautology. rule.not_tautology k d within (tautology.0, inside tautology.0 tautology.1, inside (negation tautology.0) tautology.2)) in
       rule.new k d within o.clause.literals (listed a o.id o.clause.literals (ap (option_map (λ (f : FlaggedClause). f.literals)) o.live)) (λ l has. inside l ((o.literals l).1 has));
   few = rule.few;

@@ -1,15 +1,13 @@
 -- A solver that forgets the root of its last refutation.
-use Rattle.std.proofs.Common.{◌≡◌, ℕ, List, Option, Some, None, refl, sym, ap, subst, ◌∙◌}
-use Rattle.std.specs.Option.{ForSome, is_some, option_map}
+use Rattle.std.proofs.Common.{◌≡◌, ℕ, Option, Some, None, refl, sym, subst, ◌∙◌}
+use Rattle.std.specs.Option.{ForSome, option_map}
 use Rattle.craig_spec.specs.Literal.{Clause}
 use Rattle.craig_spec.specs.Chain.{Told, IsUnforgotten, without_id}
 use Rattle.craig_base.specs.declared.clause_id.ClauseId.{ClauseId}
-use Rattle.craig_base.specs.declared.script_part.Part.{Part}
 use Rattle.craig_proof.specs.Covers.{IsCovering}
-use Rattle.craig_watch.specs.Held.{HeldView, held_clause}
-use Rattle.craig_order.specs.Order.{OrderView}
-use Rattle.craig_solver.specs.State.{IsState}
-use Rattle.craig_solver.proofs.ToldLemmas.{AreAccepted-forgotten}
+use Rattle.craig_watch.specs.Held.{held_clause}
+use Rattle.craig_solver.specs.State.{IsState, StateView}
+use Rattle.craig_solver.proofs.ToldLemmas.{AreAccepted-forgotten, AreAllTold-forgotten}
 
 -- covering is kept when an id is forgotten that has no clause
 abbrev pub CoversForgotten : Type 0
@@ -20,32 +18,43 @@ covers-forgotten law None after f given id covers is none = λ u at. absurd (let
 covers-forgotten law (Some t) after f given id covers is none = law (Some t) after f given id covers is (none t refl)
 
 -- the root may be forgotten
-pub root-unforgotten : (told : Option Told) (accepted : List (Part × Clause)) (h : HeldView) (o : OrderView) (kept : List ClauseId) (root : Option ClauseId) (id : ClauseId) → IsState told accepted h o kept root → root ≡ Some id → ForSome told (λ t. IsUnforgotten t.steps id.0)
-root-unforgotten told accepted h o kept root id state is t at = (state.root_of id is t at).0
+pub root-unforgotten : (s : StateView) (id : ClauseId) → IsState s → s.root ≡ Some id → ForSome s.told (λ t. IsUnforgotten t.steps id.0)
+root-unforgotten s id state is t at = (state.root_of id is t at).0
 
-pub IsState-forgotten : CoversForgotten → (before after : Option Told) (accepted : List (Part × Clause)) (h : HeldView) (o : OrderView) (kept : List ClauseId) (root : Option ClauseId) (id : ClauseId) → IsState before accepted h o kept root → root ≡ Some id → after ≡ option_map (without_id id.0) before → IsState after accepted h o kept None
-IsState-forgotten law before after accepted h o kept root id state root_is is = record {
-  level = state.level;
+IsState-forgotten : CoversForgotten → (s : StateView) (after : Option Told) (id : ClauseId) → IsState s → s.root ≡ Some id → after ≡ option_map (without_id id.0) s.told → IsState (record s { told = after; root = None })
+IsState-forgotten law s after id state root_is is = record {
+  begins = record {
+    level = state.begins.level;
+    ready = state.begins.ready;
+    covers = covers-forgotten law s.told after (held_clause s.held.arena) s.held.arena.given id.0 state.begins.covers is (λ t at. (state.root_of id root_is t at).2);
+  };
   consistent = state.consistent;
-  ready = state.ready;
-  covers = covers-forgotten law before after (held_clause h.arena) h.arena.given id.0 state.covers is (λ t at. (state.root_of id root_is t at).2);
+  held_alive = state.held_alive;
+  order_alive = state.order_alive;
   clauses = state.clauses;
-  kept_ids = state.kept_ids;
-  originals = AreAccepted-forgotten accepted id.0 before after state.originals is;
+  ids = state.ids;
+  originals = AreAccepted-forgotten s.accepted id.0 s.told after state.originals is;
+  all_told = AreAllTold-forgotten s.accepted id.0 s.told after state.all_told is;
   root_of = λ r none. absurd (let no : None ≡ Some r = none in cc);
 }
 
+IsState-rootless : (s : StateView) (after : Option Told) → IsState s → after ≡ s.told → IsState (record s { told = after; root = None })
+IsState-rootless s after state same = subst (λ (t : Option Told). IsState (record s { told = t; root = None })) (sym same) (record {
+  begins = state.begins;
+  consistent = state.consistent;
+  held_alive = state.held_alive;
+  order_alive = state.order_alive;
+  clauses = state.clauses;
+  ids = state.ids;
+  originals = state.originals;
+  all_told = state.all_told;
+  root_of = λ r none. absurd (let no : None ≡ Some r = none in cc);
+})
+
+root-cases : CoversForgotten → (s : StateView) (after : Option Told) (root : Option ClauseId) → s.root ≡ root → IsState s → (root ≡ None → after ≡ s.told) → ((id : ClauseId) → root ≡ Some id → after ≡ option_map (without_id id.0) s.told) → IsState (record s { told = after; root = None })
+root-cases law s after None is state none told = IsState-rootless s after state (none refl)
+root-cases law s after (Some id) is state none told = IsState-forgotten law s after id state is (told id refl)
+
 -- after the root, if there is one, was forgotten
-pub IsState-root_forgotten : CoversForgotten → (before after : Option Told) (accepted : List (Part × Clause)) (h : HeldView) (o : OrderView) (kept : List ClauseId) (root : Option ClauseId) → IsState before accepted h o kept root → (root ≡ None → after ≡ before) → ((id : ClauseId) → root ≡ Some id → after ≡ option_map (without_id id.0) before) → IsState after accepted h o kept None
-IsState-root_forgotten law before after accepted h o kept None state none told =
-    subst (λ (t : Option Told). IsState t accepted h o kept None) (sym (none refl)) state
-IsState-root_forgotten law before after accepted h o kept (Some id) state none told =
-    IsState-forgotten law before after accepted h o kept (Some id) id state refl (told id refl)
-
-some-mapped : (o : Option Told) (f : Told → Told) → is_some (option_map f o) ≡ is_some o
-some-mapped None f = refl
-some-mapped (Some t) f = refl
-
--- a tracer that tells goes on telling
-pub still-some : (before after : Option Told) (id : ℕ) → after ≡ option_map (without_id id) before → is_some after ≡ is_some before
-still-some before after id is = ap is_some is ∙ some-mapped before (without_id id)
+pub IsState-root_forgotten : CoversForgotten → (s : StateView) (after : Option Told) → IsState s → (s.root ≡ None → after ≡ s.told) → ((id : ClauseId) → s.root ≡ Some id → after ≡ option_map (without_id id.0) s.told) → IsState (record s { told = after; root = None })
+IsState-root_forgotten law s after state none told = root-cases law s after s.root refl state none told

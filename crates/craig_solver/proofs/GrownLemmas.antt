@@ -1,15 +1,13 @@
 -- A solver that knows more variables.
-use Rattle.std.proofs.Common.{◌≡◌, ℕ, ◌<◌, inl, inr, List, Option, All, length, max, sym, ap, subst, ◌∙◌, arith}
+use Rattle.std.proofs.Common.{◌≡◌, ℕ, ◌<◌, inl, inr, List, All, length, max, sym, ap, subst, ◌∙◌, arith}
 use Rattle.std.proofs.lemmas.Bool.{cases_lt}
 use Rattle.std.proofs.lemmas.List.Elements.{All-weaker}
 use Rattle.craig_spec.specs.Literal.{Clause, Literal}
-use Rattle.craig_spec.specs.Chain.{Told}
-use Rattle.craig_base.specs.declared.clause_id.ClauseId.{ClauseId}
 use Rattle.craig_base.specs.declared.script_part.Part.{Part}
 use Rattle.craig_watch.specs.Held.{HeldView, IsConsistent}
 use Rattle.craig_order.specs.Order.{OrderView, IsGrown}
 use Rattle.craig_search.specs.Leaves.{IsReady}
-use Rattle.craig_solver.specs.State.{AreHeldFor, IsState}
+use Rattle.craig_solver.specs.State.{AreHeldFor, IsState, StateView}
 
 below-max : (x m n : ℕ) → x < m → x < max m n
 below-max x m n low = omega (arith, low)
@@ -37,15 +35,20 @@ held-grown accepted h vars are = record {
   variables = are.variables;
 }
 
-pub IsState-grown : (told : Option Told) (accepted : List (Part × Clause)) (h n : HeldView) (o p : OrderView) (kept : List ClauseId) (root : Option ClauseId) (vars : ℕ) → IsState told accepted h o kept root → n ≡ wider h vars → IsConsistent n → IsGrown o p vars → IsState told accepted n p kept root
-IsState-grown told accepted h n o p kept root vars state is ok grown =
-    subst (λ (m : HeldView). IsState told accepted m p kept root) (sym is) (record {
-      level = state.level;
+pub IsState-grown : (s : StateView) (n : HeldView) (p : OrderView) (vars : ℕ) → IsState s → n ≡ wider s.held vars → IsConsistent n → IsGrown s.order p vars → IsState (record s { held = n; order = p })
+IsState-grown s n p vars state is ok grown =
+    subst (λ (m : HeldView). IsState (record s { held = m; order = p })) (sym is) (record {
+      begins = record {
+        level = state.begins.level;
+        ready = ready-grown s.held s.order p vars state.begins.ready grown;
+        covers = state.begins.covers;
+      };
       consistent = subst IsConsistent is ok;
-      ready = ready-grown h o p vars state.ready grown;
-      covers = state.covers;
-      clauses = held-grown accepted h vars state.clauses;
-      kept_ids = state.kept_ids;
+      held_alive = state.held_alive;
+      order_alive = grown.alive ∙ state.order_alive;
+      clauses = held-grown s.accepted s.held vars state.clauses;
+      ids = state.ids;
       originals = state.originals;
+      all_told = state.all_told;
       root_of = state.root_of;
     })

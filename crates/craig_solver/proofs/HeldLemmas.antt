@@ -1,13 +1,16 @@
 -- A solver that holds one clause more, and accepts it.
-use Rattle.std.proofs.Common.{◌≡◌, ◌≢◌, inl, inr, ℕ, ◌+◌, ◌<◌, Bool, true, false, cond, List, [], ◌∷◌, ◌++◌, All, Option, Some, None, get_or, refl, sym, ap, subst, ◌∙◌, arith, ne_eqb}
-use Rattle.std.specs.Option.{option_map}
-use Rattle.std.proofs.lemmas.List.Elements.{All-push, All-weaker, Contains-append_left, Contains-push, Contains-push_cases}
+use Rattle.std.proofs.Common.{◌≡◌, ◌≢◌, inl, inr, ℕ, ◌+◌, ◌<◌, Bool, false, cond, List, [], ◌∷◌, ◌++◌, All, Contains, Option, Some, None, get_or, refl, sym, ap, subst, ◌∙◌, arith, ne_eqb, true}
+use Rattle.std.specs.Option.{option_map, option_map_or}
+use Rattle.std.proofs.lemmas.List.{map-append}
+use Rattle.std.proofs.lemmas.List.Elements.{All-contains, All-push, All-weaker, Contains-append_left, Contains-push, Contains-push_cases}
 use Rattle.std.proofs.lemmas.List.Quantifiers.{all_pairs_push}
 use Rattle.craig_spec.specs.Literal.{Clause, Literal}
 use Rattle.craig_spec.specs.Chain.{SameLiterals, Told, IsUnforgotten, clause_told}
 use Rattle.craig_spec.specs.Occurs.{occurs_in_clause}
 use Rattle.craig_spec.specs.Truth.{clause_value}
-use Rattle.craig_base.specs.Arena.{ArenaView, FlaggedClause, ChangesOnly, clause_at, with_clause}
+use Rattle.craig_spec.proofs.ClauseLemmas.{SameLiterals-sym, clause_value-same, occurs_in_clause-same}
+use Rattle.craig_spec.proofs.ToldLemmas.{IsUnforgotten-pushed, clause_told-pushed}
+use Rattle.craig_base.specs.Arena.{ArenaView, FlaggedClause, ChangesOnly, IsArena, clause_at, literals_at, with_clause}
 use Rattle.craig_base.specs.Clauses.{IsNormal, IsTautology}
 use Rattle.craig_base.specs.declared.clause_id.ClauseId.{ClauseId}
 use Rattle.craig_base.specs.declared.script_part.Part.{Part}
@@ -15,31 +18,33 @@ use Rattle.craig_proof.specs.Covers.{IsCovering, IsOldOrNext}
 use Rattle.craig_proof.specs.Tracer.{Appends, original_step}
 use Rattle.craig_watch.specs.Held.{HeldView, IsConsistent, held_clause}
 use Rattle.craig_watch.specs.Trail.{IsAssigned}
-use Rattle.craig_order.specs.Order.{OrderView}
-use Rattle.craig_solver.specs.State.{AreHeldFor, AreKept, IsHeld, IsRootOf, IsState}
+use Rattle.craig_search.proofs.ArenaLemmas.{added-before, added-held, added-here, added-kept, live-below}
+use Rattle.craig_search.proofs.CoversLemmas.{old_or_added}
+use Rattle.craig_search.proofs.TellsLemmas.{before_step}
+use Rattle.craig_solver.specs.State.{AreHeldFor, AreHeldIds, IsHeld, IsRootOf, IsState, StateView, accepting, clauses_under}
 use Rattle.craig_solver.proofs.AcceptedLemmas.{IsModel-fewer, IsModel-last, Occurs-last, Occurs-more}
-use Rattle.craig_solver.proofs.ArenaLemmas.{added-before, added-held, added-here, added-kept, old_or_added}
-use Rattle.craig_solver.proofs.ClauseLemmas.{SameLiterals-sym, clause_value-same, occurs_in_clause-same}
-use Rattle.craig_solver.proofs.ToldLemmas.{AreAccepted-more, AreAccepted-original, IsUnforgotten-step, before_step, clause_told-pushed, unforgotten-below}
+use Rattle.craig_solver.proofs.ListLemmas.{map-alike}
+use Rattle.craig_solver.proofs.ToldLemmas.{AreAccepted-more, AreAccepted-original, AreAllTold-original, AreAllTold-tautology, unforgotten-below}
 
 -- a tautology is accepted, and nothing else changes
-pub IsState-tautology : (told : Option Told) (accepted : List (Part × Clause)) (h : HeldView) (o : OrderView) (kept : List ClauseId) (root : Option ClauseId) (p : Part × Clause) → IsState told accepted h o kept root → IsTautology p.1 → All (λ (l : Literal). l.var < h.vars) p.1 → IsState told (accepted ++ p ∷ []) h o kept root
-IsState-tautology told accepted h o kept root p state tautology known = record {
-  level = state.level;
+pub IsState-tautology : (s : StateView) (part : Part) (c : Clause) → IsState s → IsTautology c → All (λ (l : Literal). l.var < s.held.vars) c → IsState (accepting part c s)
+IsState-tautology s part c state tautology known = record {
+  begins = state.begins;
   consistent = state.consistent;
-  ready = state.ready;
-  covers = state.covers;
+  held_alive = state.held_alive;
+  order_alive = state.order_alive;
   clauses = record {
-    known = All-push (λ (a : Part × Clause). All (λ (l : Literal). l.var < h.vars) a.1) accepted p state.clauses.known known;
-    held = λ a here not. elim (Contains-push_cases accepted p a here) [
+    known = All-push (λ (a : Part × Clause). All (λ (l : Literal). l.var < s.held.vars) a.1) s.accepted (part, c) state.clauses.known known;
+    held = λ a here not. elim (Contains-push_cases s.accepted (part, c) a here) [
       | inl old ↦ state.clauses.held a old not
       | inr last ↦ absurd (not (subst (λ (b : Part × Clause). IsTautology b.1) last tautology))
     ];
-    implied = λ id c is s model. state.clauses.implied id c is s (IsModel-fewer accepted p s model);
-    variables = λ id x c is occurs. Occurs-more accepted p x (state.clauses.variables id x c is occurs);
+    implied = λ id d is a model. state.clauses.implied id d is a (IsModel-fewer s.accepted (part, c) a model);
+    variables = λ id x d is occurs. Occurs-more s.accepted (part, c) x (state.clauses.variables id x d is occurs);
   };
-  kept_ids = state.kept_ids;
-  originals = AreAccepted-more accepted p told state.originals;
+  ids = state.ids;
+  originals = AreAccepted-more s.accepted (part, c) s.told state.originals;
+  all_told = AreAllTold-tautology s.accepted (part, c) s.told tautology state.all_told;
   root_of = state.root_of;
 }
 
@@ -47,8 +52,8 @@ module _ (a b : ArenaView) (id : ℕ) (f : FlaggedClause) (fresh : clause_at a i
   kept-added : (k : ClauseId) → (c : FlaggedClause) × (clause_at a k.0 ≡ Some c) × (c.flags.learnt ≡ false) → (c : FlaggedClause) × (clause_at b k.0 ≡ Some c) × (c.flags.learnt ≡ false)
   kept-added k was = (was.0, added-kept a b id f fresh only k.0 was.0 was.1, was.2)
 
-  pub AreKept-added : (kept : List ClauseId) (next : ClauseId) → next.0 ≡ id → f.flags.learnt ≡ false → AreKept a kept → ((k : ClauseId) → (c : FlaggedClause) × (clause_at a k.0 ≡ Some c) × (c.flags.learnt ≡ false) → k.0 < id) → AreKept b (kept ++ next ∷ [])
-  AreKept-added kept next is not_learnt are below = record {
+  pub AreHeldIds-added : (kept : List ClauseId) (next : ClauseId) → next.0 ≡ id → f.flags.learnt ≡ false → AreHeldIds a kept → ((k : ClauseId) → (c : FlaggedClause) × (clause_at a k.0 ≡ Some c) × (c.flags.learnt ≡ false) → k.0 < id) → AreHeldIds b (kept ++ next ∷ [])
+  AreHeldIds-added kept next is not_learnt are below = record {
     rising = all_pairs_push (λ (x y : ClauseId). x.0 < y.0) kept next are.rising (λ k d within. subst (λ (n : ℕ). (get_or kept k d).0 < n) (sym is) (below (get_or kept k d) (are.held k d within)));
     held = All-push (λ (x : ClauseId). (c : FlaggedClause) × (clause_at b x.0 ≡ Some c) × (c.flags.learnt ≡ false)) kept next (All-weaker (λ (x : ClauseId). (c : FlaggedClause) × (clause_at a x.0 ≡ Some c) × (c.flags.learnt ≡ false)) (λ (x : ClauseId). (c : FlaggedClause) × (clause_at b x.0 ≡ Some c) × (c.flags.learnt ≡ false)) kept-added kept are.held) (f, ap (clause_at b) is ∙ added-here a b id f fresh only, not_learnt);
     every = λ k c found no. elim (added-before a b id f fresh only k c found) [
@@ -98,38 +103,55 @@ module _ (a b : ArenaView) (id : ℕ) (f : FlaggedClause) (fresh : clause_at a i
 abbrev pub CoversOriginal : Type 0
 CoversOriginal = (before after : Option Told) (f g : ℕ → Option Clause) (given part : ℕ) (literals : Clause) → IsCovering before f given → Appends before after (original_step given part literals) → IsOldOrNext f g given literals → IsCovering after g (given + 1)
 
-module _ (before after : Option Told) (accepted : List (Part × Clause)) (h n : HeldView) (o : OrderView) (kept : List ClauseId) (root : Option ClauseId) (id : ClauseId) (part : Part) (written : Clause) (f : FlaggedClause) (state : IsState before accepted h o kept root) (is : n ≡ record h { arena = with_clause h.arena f }) (next : id.0 ≡ h.arena.given) (fresh : clause_at h.arena id.0 ≡ None) (only : ChangesOnly h.arena n.arena id.0 (Some f)) (longer : List ClauseId) (pushed : longer ≡ kept ++ id ∷ []) (appends : Appends before after (original_step id.0 part.0 f.literals)) where
-  root-added : (state_of : IsState before accepted h o kept root) → IsRootOf after n.arena root
+-- the literals that are held under an older id stay
+literals-added : (a b : ArenaView) (id : ℕ) (f : FlaggedClause) → clause_at a id ≡ None → ChangesOnly a b id (Some f) → (k : ℕ) → k ≢ id → literals_at b k ≡ literals_at a k
+literals-added a b id f fresh only k other = ap (λ (o : Option FlaggedClause). option_map_or (λ g. g.literals) o []) (elsewhere a b id f fresh only k other)
+
+-- so the clause is held behind the others
+pub clauses_under-added : (a b : ArenaView) (ids longer : List ClauseId) (id : ClauseId) (f : FlaggedClause) → IsArena a → AreHeldIds a ids → id.0 ≡ a.given → clause_at a id.0 ≡ None → ChangesOnly a b id.0 (Some f) → longer ≡ ids ++ id ∷ [] → clauses_under b longer ≡ clauses_under a ids ++ f.literals ∷ []
+clauses_under-added a b ids longer id f ok are next fresh only pushed =
+    let below : (x : ClauseId) → Contains ids x → x.0 < a.given = λ x here. let c = All-contains (λ (y : ClauseId). (d : FlaggedClause) × (clause_at a y.0 ≡ Some d) × (d.flags.learnt ≡ false)) ids x are.held here in live-below a x.0 c.0 ok c.1 in
+    let old : clauses_under b ids ≡ clauses_under a ids = map-alike (λ (x : ClauseId). literals_at b x.0) (λ (x : ClauseId). literals_at a x.0) ids (λ x here. literals-added a b id.0 f fresh only x.0 (λ same. let low : x.0 < a.given = below x here in omega (arith, low, same, next))) in
+    let last : literals_at b id.0 ≡ f.literals = ap (λ (o : Option FlaggedClause). option_map_or (λ g. g.literals) o []) (added-here a b id.0 f fresh only) in
+    ap (clauses_under b) pushed ∙ map-append (λ (x : ClauseId). literals_at b x.0) ids (id ∷ []) ∙ ap (λ (xs : List Clause). xs ++ literals_at b id.0 ∷ []) old ∙ ap (λ (c : Clause). clauses_under a ids ++ c ∷ []) last
+
+module _ (s : StateView) (after : Option Told) (n : HeldView) (id : ClauseId) (part : Part) (written : Clause) (f : FlaggedClause) (state : IsState s) (is : n ≡ record s.held { arena = with_clause s.held.arena f }) (next : id.0 ≡ s.held.arena.given) (fresh : clause_at s.held.arena id.0 ≡ None) (only : ChangesOnly s.held.arena n.arena id.0 (Some f)) (longer : List ClauseId) (pushed : longer ≡ s.held_ids ++ id ∷ []) (appends : Appends s.told after (original_step id.0 part.0 f.literals)) where
+  root-added : (state_of : IsState s) → IsRootOf after n.arena s.root
   root-added state_of r root_is u told =
-      let was = before_step before after (original_step id.0 part.0 f.literals) u appends told in
+      let was = before_step s.told after (original_step id.0 part.0 f.literals) u appends told in
       let old = state_of.root_of r root_is was.0 was.1 in
-      let low : r.0 < h.arena.given = unforgotten-below was.0 (held_clause h.arena) h.arena.given r.0 (state_of.covers was.0 was.1) old.0 in (
-        subst (λ (t : Told). IsUnforgotten t.steps r.0) (sym was.2) (IsUnforgotten-step was.0 (original_step id.0 part.0 f.literals) r.0 old.0),
+      let low : r.0 < s.held.arena.given = unforgotten-below was.0 (held_clause s.held.arena) s.held.arena.given r.0 (state_of.begins.covers was.0 was.1) old.0 in (
+        subst (λ (t : Told). IsUnforgotten t.steps r.0) (sym was.2) (IsUnforgotten-pushed was.0.steps (original_step id.0 part.0 f.literals) r.0 old.0),
         subst (λ (t : Told). clause_told t.steps r.0 ≡ Some []) (sym was.2) (clause_told-pushed was.0.steps (original_step id.0 part.0 f.literals) r.0 [] old.1),
-        ap (option_map (λ (g : FlaggedClause). g.literals)) (elsewhere h.arena n.arena id.0 f fresh only r.0 (λ same. omega (arith, low, same, next))) ∙ old.2,
+        ap (option_map (λ (g : FlaggedClause). g.literals)) (elsewhere s.held.arena n.arena id.0 f fresh only r.0 (λ same. omega (arith, low, same, next))) ∙ old.2,
       )
 
   covers-added : CoversOriginal → IsCovering after (held_clause n.arena) n.arena.given
   covers-added law =
-      let given : n.arena.given ≡ h.arena.given + 1 = ap (λ (m : HeldView). m.arena.given) is in
-      subst (IsCovering after (held_clause n.arena)) (sym given) (law before after (held_clause h.arena) (held_clause n.arena) h.arena.given part.0 f.literals state.covers (subst (λ (k : ℕ). Appends before after (original_step k part.0 f.literals)) next appends) (subst (λ (k : ℕ). IsOldOrNext (held_clause h.arena) (held_clause n.arena) k f.literals) next (old_or_added h.arena n.arena id.0 f fresh only)))
+      let given : n.arena.given ≡ s.held.arena.given + 1 = ap (λ (m : HeldView). m.arena.given) is in
+      subst (IsCovering after (held_clause n.arena)) (sym given) (law s.told after (held_clause s.held.arena) (held_clause n.arena) s.held.arena.given part.0 f.literals state.begins.covers (subst (λ (k : ℕ). Appends s.told after (original_step k part.0 f.literals)) next appends) (subst (λ (k : ℕ). IsOldOrNext (held_clause s.held.arena) (held_clause n.arena) k f.literals) next (old_or_added s.held.arena n.arena id.0 f fresh only)))
 
-  pub IsState-original : CoversOriginal → ((k : ℕ) (c : FlaggedClause) → clause_at h.arena k ≡ Some c → k < h.arena.given) → IsConsistent n → f.flags.learnt ≡ false → IsNormal f.literals → SameLiterals written f.literals → All (λ (l : Literal). l.var < h.vars) written → IsState after (accepted ++ (part, written) ∷ []) n o longer root
-  IsState-original law given ok not_learnt normal same known = record {
-    level = ap (λ (m : HeldView). m.level) is ∙ state.level;
-    consistent = ok;
-    ready = record {
-      known = state.ready.known ∙ sym (ap (λ (m : HeldView). m.vars) is);
-      given_back = λ v free. state.ready.given_back v (subst (λ (m : HeldView). v < m.vars) is free.0, λ assigned. free.1 (subst (λ (m : HeldView). IsAssigned m.trail v) (sym is) assigned));
+  pub IsState-original : CoversOriginal → IsConsistent n → f.flags.learnt ≡ false → IsNormal f.literals → SameLiterals written f.literals → All (λ (l : Literal). l.var < s.held.vars) written → IsState (record { accepted = s.accepted ++ (part, written) ∷ []; held = n; order = s.order; told = after; held_ids = longer; root = s.root })
+  IsState-original law ok not_learnt normal same known = record {
+    begins = record {
+      level = ap (λ (m : HeldView). m.level) is ∙ state.begins.level;
+      ready = record {
+        known = state.begins.ready.known ∙ sym (ap (λ (m : HeldView). m.vars) is);
+        given_back = λ v free. state.begins.ready.given_back v (subst (λ (m : HeldView). v < m.vars) is free.0, λ assigned. free.1 (subst (λ (m : HeldView). IsAssigned m.trail v) (sym is) assigned));
+      };
+      covers = covers-added law;
     };
-    covers = covers-added law;
-    clauses = subst (AreHeldFor (accepted ++ (part, written) ∷ []) n.arena) (sym (ap (λ (m : HeldView). m.vars) is)) (AreHeldFor-added h.arena n.arena id.0 f fresh only accepted (part, written) h.vars not_learnt same known state.clauses);
-    kept_ids = subst (AreKept n.arena) (sym pushed) (AreKept-added h.arena n.arena id.0 f fresh only kept id refl not_learnt state.kept_ids (λ k was. subst (λ (m : ℕ). k.0 < m) (sym next) (given k.0 was.0 was.1)));
-    originals = AreAccepted-original accepted part written f.literals id.0 before after state.originals appends same normal;
+    consistent = ok;
+    held_alive = ap (λ (m : HeldView). m.dead) is ∙ state.held_alive;
+    order_alive = state.order_alive;
+    clauses = subst (AreHeldFor (s.accepted ++ (part, written) ∷ []) n.arena) (sym (ap (λ (m : HeldView). m.vars) is)) (AreHeldFor-added s.held.arena n.arena id.0 f fresh only s.accepted (part, written) s.held.vars not_learnt same known state.clauses);
+    ids = subst (AreHeldIds n.arena) (sym pushed) (AreHeldIds-added s.held.arena n.arena id.0 f fresh only s.held_ids id refl not_learnt state.ids (λ k was. subst (λ (m : ℕ). k.0 < m) (sym next) (live-below s.held.arena k.0 was.0 state.consistent.arena was.1)));
+    originals = AreAccepted-original s.accepted part written f.literals id.0 s.told after state.originals appends same normal;
+    all_told = AreAllTold-original s.accepted part written f.literals id.0 s.told after state.all_told appends same;
     root_of = root-added state;
   }
 
 -- the same with another name for the accepted clauses
-pub IsState-same : (told : Option Told) (accepted same : List (Part × Clause)) (h : HeldView) (o : OrderView) (kept : List ClauseId) (root : Option ClauseId) → accepted ≡ same → IsState told accepted h o kept root → IsState told same h o kept root
-IsState-same told accepted same h o kept root is state =
-    subst (λ (xs : List (Part × Clause)). IsState told xs h o kept root) is state
+pub IsState-same : (s : StateView) (part : Part) (c : Clause) (new : List (Part × Clause)) → new ≡ s.accepted ++ (part, c) ∷ [] → IsState (accepting part c s) → IsState (record s { accepted = new })
+IsState-same s part c new is state =
+    subst (λ (xs : List (Part × Clause)). IsState (record s { accepted = xs })) (sym is) state

@@ -1,7 +1,5 @@
 mod AcceptedLemmas
 mod AnswerLemmas
-mod ArenaLemmas
-mod ClauseLemmas
 mod ForgottenLemmas
 mod GrownLemmas
 mod HeldLemmas

@@ -9,7 +9,7 @@ use Rattle.craig_proof.specs.ChainStore.{ChainStoreView}
 use Rattle.craig_watch.specs.Held.{HeldView}
 use Rattle.craig_search.specs.declared.verdict.Verdict.{Verdict}
 use Rattle.craig_search.specs.declared.verdict.Verdict.TheVariants as verdict
-use Rattle.craig_search.specs.Tells.{IsToldOf}
+use Rattle.craig_search.specs.Tells.{IsVerdictTold}
 use Rattle.craig_search.specs.Verdict.{Assumptions, IsVerdict}
 use Rattle.craig_solver.specs.declared.answer.Answer.{Answer}
 use Rattle.craig_solver.specs.declared.answer.Answer.TheVariants as answer
@@ -18,7 +18,7 @@ use Rattle.craig_solver.specs.Settling.{IsAnswerFor}
 use Rattle.craig_solver.specs.Told.{AreAccepted, TellsAnswer}
 use Rattle.craig_solver.proofs.SearchedLemmas.{originals-searched, root-unforgotten, told-still}
 
-tells-cases : (accepted : List (Part × Clause)) (h n : HeldView) (assumptions : Assumptions) (v : Verdict) (a : Answer) (t u : Told) → AreAccepted accepted u → IsToldOf h n assumptions v (Some t) (Some u) → IsAnswerFor n v a → TellsAnswer accepted assumptions a u
+tells-cases : (accepted : List (Part × Clause)) (h n : HeldView) (assumptions : Assumptions) (v : Verdict) (a : Answer) (t u : Told) → AreAccepted accepted u → IsVerdictTold h n assumptions v (Some t) (Some u) → IsAnswerFor n v a → TellsAnswer accepted assumptions a u
 tells-cases accepted h n assumptions verdict.Model (answer.Model values) t u all told for = tt
 tells-cases accepted h n assumptions verdict.Model (answer.Failed root places) t u all told for = absurd for
 tells-cases accepted h n assumptions verdict.Model (answer.Limit lemmas) t u all told for = absurd for
@@ -34,11 +34,11 @@ tells-cases accepted h n assumptions (verdict.Failed root places) a t u all told
 tells-cases accepted h n assumptions (verdict.Limit lemmas) a t u all told for =
     subst (λ (b : Answer). TellsAnswer accepted assumptions b u) (sym for) tt
 
-pub TellsAnswer-searched : (accepted same : List (Part × Clause)) (h n : HeldView) (assumptions : Assumptions) (limit : Option ℕ) (v : Verdict) (a : Answer) (before after : Option Told) → accepted ≡ same → assumptions ≡ [] → is_some after ≡ is_some before → IsVerdict h n assumptions limit v → IsToldOf h n assumptions v before after → ForSome before (AreAccepted accepted) → IsAnswerFor n v a → ForSome after (TellsAnswer same assumptions a)
+pub TellsAnswer-searched : (accepted same : List (Part × Clause)) (h n : HeldView) (assumptions : Assumptions) (limit : Option ℕ) (v : Verdict) (a : Answer) (before after : Option Told) → accepted ≡ same → assumptions ≡ [] → is_some after ≡ is_some before → IsVerdict h n assumptions limit v → IsVerdictTold h n assumptions v before after → ForSome before (AreAccepted accepted) → IsAnswerFor n v a → ForSome after (TellsAnswer same assumptions a)
 TellsAnswer-searched accepted same h n assumptions limit v a before after is_same none tells is told all for = λ u at.
     let t = told-still before after u tells at in
     let now = originals-searched accepted h n assumptions limit none v before after tells is told all u at in
-    let both = subst (λ (o : Option Told). IsToldOf h n assumptions v (Some t.0) o) at (subst (λ (b : Option Told). IsToldOf h n assumptions v b after) t.1 told) in
+    let both = subst (λ (o : Option Told). IsVerdictTold h n assumptions v (Some t.0) o) at (subst (λ (b : Option Told). IsVerdictTold h n assumptions v b after) t.1 told) in
     subst (λ (xs : List (Part × Clause)). TellsAnswer xs assumptions a u) is_same (tells-cases accepted h n assumptions v a t.0 u now both for)
 
 -- the root of a refutation that a store was told may be replayed until the next search

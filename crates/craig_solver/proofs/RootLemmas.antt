@@ -2,21 +2,18 @@
 use Rattle.std.proofs.Common.{◌≡◌, inl, inr, ℕ, ◌<◌, ◌≤◌, ◌⊎◌, Bool, true, false, cond, not, ◌&&◌, ◌||◌, eqb, List, [], ◌∷◌, map, Contains, Option, Some, None, refl, sym, ap, subst, ◌∙◌, arith}
 use Rattle.std.specs.List.{list_any}
 use Rattle.std.specs.Option.{ForSome, is_some, option_map}
-use Rattle.craig_spec.specs.Literal.{Clause}
 use Rattle.craig_spec.specs.Chain.{Told, ToldStep, IsUnforgotten, clause_told, forgotten_at, without_id}
 use Rattle.craig_base.specs.declared.clause_id.ClauseId.{ClauseId}
-use Rattle.craig_base.specs.declared.script_part.Part.{Part}
 use Rattle.craig_watch.specs.Held.{HeldView, held_clause}
-use Rattle.craig_order.specs.Order.{OrderView}
 use Rattle.craig_search.specs.declared.verdict.Verdict.{Verdict}
 use Rattle.craig_search.specs.declared.verdict.Verdict.TheVariants as verdict
-use Rattle.craig_search.specs.Tells.{IsToldOf, TellsVerdict, WasTold}
+use Rattle.craig_search.specs.Tells.{IsVerdictTold, TellsVerdict, WasTold}
 use Rattle.craig_search.specs.Verdict.{Assumptions}
 use Rattle.craig_solver.specs.declared.answer.Answer.{Answer}
 use Rattle.craig_solver.specs.declared.answer.Answer.TheVariants as answer
 use Rattle.craig_solver.specs.Answer.{root_of_answer}
 use Rattle.craig_solver.specs.Settling.{IsAnswerFor, root_of_verdict}
-use Rattle.craig_solver.specs.State.{IsState, root_number}
+use Rattle.craig_solver.specs.State.{IsState, StateView, root_number}
 use Rattle.craig_solver.proofs.SearchedLemmas.{told-still}
 use Rattle.craig_solver.proofs.ToldLemmas.{unforgotten-below}
 
@@ -76,13 +73,13 @@ stays-forgotten has is_kept given id t u steps low never kept =
     ]
 
 -- the root before a search is forgotten after it
-pub root-forgotten : HasStep → StepIsKept → (before mid after : Option Told) (accepted : List (Part × Clause)) (h g n : HeldView) (o : OrderView) (kept : List ClauseId) (root : Option ClauseId) (assumptions : Assumptions) (v : Verdict) → IsState before accepted h o kept root → ((id : ClauseId) → root ≡ Some id → mid ≡ option_map (without_id id.0) before) → g ≡ h → is_some after ≡ is_some mid → IsToldOf g n assumptions v mid after → (k : ℕ) → root_number root ≡ Some k → ForSome after (λ t. IsUnforgotten t.steps k → ⊥)
-root-forgotten has is_kept before mid after accepted h g n o kept root assumptions v state forgotten same tells told k number u at live =
-    let id = number-is root k number in
+pub root-forgotten : HasStep → StepIsKept → (s : StateView) (mid after : Option Told) (g n : HeldView) (assumptions : Assumptions) (v : Verdict) → IsState s → ((id : ClauseId) → s.root ≡ Some id → mid ≡ option_map (without_id id.0) s.told) → g ≡ s.held → is_some after ≡ is_some mid → IsVerdictTold g n assumptions v mid after → (k : ℕ) → root_number s.root ≡ Some k → ForSome after (λ t. IsUnforgotten t.steps k → ⊥)
+root-forgotten has is_kept s mid after g n assumptions v state forgotten same tells told k number u at live =
+    let id = number-is s.root k number in
     let m = told-still mid after u tells at in
-    let t = told-before before mid id.0.0 m.0 (forgotten id.0 id.1) m.1 in
-    let below : id.0.0 < h.arena.given = unforgotten-below t.0 (held_clause h.arena) h.arena.given id.0.0 (state.covers t.0 t.1) (state.root_of id.0 id.1 t.0 t.1).0 in
-    let low : k < g.arena.given = subst (λ (b : HeldView). k < b.arena.given) (sym same) (subst (λ (x : ℕ). x < h.arena.given) id.2 below) in
+    let t = told-before s.told mid id.0.0 m.0 (forgotten id.0 id.1) m.1 in
+    let below : id.0.0 < s.held.arena.given = unforgotten-below t.0 (held_clause s.held.arena) s.held.arena.given id.0.0 (state.begins.covers t.0 t.1) (state.root_of id.0 id.1 t.0 t.1).0 in
+    let low : k < g.arena.given = subst (λ (b : HeldView). k < b.arena.given) (sym same) (subst (λ (x : ℕ). x < s.held.arena.given) id.2 below) in
     let never : IsUnforgotten m.0.steps k → ⊥ = λ was.
     let none : list_any (λ (q : ToldStep). eqb q.id id.0.0 && not q.forgotten) m.0.steps ≡ false = ap (λ (w : Told). list_any (λ (q : ToldStep). eqb q.id id.0.0 && not q.forgotten) w.steps) t.2 ∙ gone id.0.0 t.0.steps in
     let no : false ≡ true = sym none ∙ subst (IsUnforgotten m.0.steps) (sym id.2) was in
@@ -90,9 +87,9 @@ root-forgotten has is_kept before mid after accepted h g n o kept root assumptio
     stays-forgotten has is_kept g.arena.given k m.0 u (told-steps g n assumptions v m.0 u (told m.0 u m.1 at)) low never live
 
 -- the root of a solver is an empty clause that isn't forgotten
-pub root-told : (dead : Bool) (told : Option Told) (accepted : List (Part × Clause)) (h : HeldView) (o : OrderView) (kept : List ClauseId) (root : Option ClauseId) → (dead ≡ false → IsState told accepted h o kept root) → (k : ℕ) → cond dead None (root_number root) ≡ Some k → ForSome told (λ t. IsUnforgotten t.steps k × (clause_told t.steps k ≡ Some []))
-root-told true told accepted h o kept root state k is = absurd (let no : None ≡ Some k = is in cc)
-root-told false told accepted h o kept root state k is = λ t at.
-    let id = number-is root k is in
+pub root-told : (dead : Bool) (s : StateView) → (dead ≡ false → IsState s) → (k : ℕ) → cond dead None (root_number s.root) ≡ Some k → ForSome s.told (λ t. IsUnforgotten t.steps k × (clause_told t.steps k ≡ Some []))
+root-told true s state k is = absurd (let no : None ≡ Some k = is in cc)
+root-told false s state k is = λ t at.
+    let id = number-is s.root k is in
     let r = (state refl).root_of id.0 id.1 t at in
     subst (λ (x : ℕ). IsUnforgotten t.steps x × (clause_told t.steps x ≡ Some [])) id.2 (r.0, r.1)

@@ -18,14 +18,17 @@ use Rattle.craig_order.specs.Order.{OrderView}
 use Rattle.craig_search.specs.declared.verdict.Verdict.{Verdict}
 use Rattle.craig_search.specs.declared.verdict.Verdict.TheVariants.{Model, Failed, Limit}
 use Rattle.craig_search.specs.Leaves.{Leaves}
-use Rattle.craig_search.specs.Tells.{IsRoot, IsToldOf, IsUnitId, Tells}
+use Rattle.craig_search.specs.Search.{IsSearched}
+use Rattle.craig_search.specs.Tells.{IsRoot, IsStillTold, IsUnitId, IsVerdictTold, Tells, TellsVerdict}
 use Rattle.craig_search.specs.Verdict.{AreFirstPlaces, Assumptions, IsVerdict}
 use Rattle.craig_solver.specs.Settling.{IsAtRoot, root_of_verdict}
-use Rattle.craig_solver.specs.Solver.{AreReordered, accepted_clauses}
-use Rattle.craig_solver.specs.State.{AreHeldFor, AreKept, IsRootOf, IsState, clauses_under}
-use Rattle.craig_solver.specs.Told.{AreAccepted}
-use Rattle.craig_solver.proofs.ClauseLemmas.{SameLiterals-trans, passes, passing}
-use Rattle.craig_solver.proofs.ToldLemmas.{IsAcceptedStep-same}
+use Rattle.craig_solver.specs.Answer.{accepted_clauses}
+use Rattle.craig_solver.specs.Solver.{AreReordered}
+use Rattle.craig_solver.specs.State.{AreHeldFor, AreHeldIds, IsRootOf, IsState, StateView, clauses_under}
+use Rattle.craig_solver.specs.Told.{AreAccepted, AreAllTold}
+use Rattle.craig_spec.proofs.ClauseLemmas.{SameLiterals-trans}
+use Rattle.craig_spec.proofs.MemberLemmas.{list_any-find, list_any-member}
+use Rattle.craig_solver.proofs.ToldLemmas.{AreAllTold-still, IsAcceptedStep-same}
 
 -- the models of an arena's clauses are the assignments that make each one true that is found
 abbrev pub ModelsOfArena : Type 0
@@ -42,7 +45,7 @@ held-model law accepted a vars ok are s model = law a s ok (λ id c is. are.impl
 -- and what occurs in a held clause occurs in an accepted one
 pub held-occurs : AreLookedUp → (accepted : List (Part × Clause)) (a : ArenaView) (vars : ℕ) → IsArena a → AreHeldFor accepted a vars → (x : ℕ) → Occurs x (clauses_of a) → Occurs x (accepted_clauses accepted)
 held-occurs law accepted a vars ok are x occurs =
-    let m = passing (occurs_in_clause x) (clauses_of a) occurs in
+    let m = list_any-find (occurs_in_clause x) (clauses_of a) occurs in
     let id = law a m.0 ok m.1 in
     are.variables id.0 x m.0 id.1 m.2
 
@@ -52,8 +55,8 @@ module _ (h n : HeldView) (left : Leaves h n) where
       let d = left.stay x.0 was.0 was.1 was.2 in
       (d.0, d.1, ap (λ (f : _). f.learnt) d.2.flags ∙ was.2)
 
-  pub AreKept-searched : (kept : List ClauseId) → AreKept h.arena kept → AreKept n.arena kept
-  AreKept-searched kept are = record {
+  pub AreHeldIds-searched : (kept : List ClauseId) → AreHeldIds h.arena kept → AreHeldIds n.arena kept
+  AreHeldIds-searched kept are = record {
     rising = are.rising;
     held = All-weaker (λ (x : ClauseId). (c : FlaggedClause) × (clause_at h.arena x.0 ≡ Some c) × (c.flags.learnt ≡ false)) (λ (x : ClauseId). (c : FlaggedClause) × (clause_at n.arena x.0 ≡ Some c) × (c.flags.learnt ≡ false)) kept-still kept are.held;
     every = λ id d is no. elim (cases_lt id h.arena.given) [
@@ -84,7 +87,7 @@ module _ (h n : HeldView) (left : Leaves h n) where
   found-literals : (a : ArenaView) (id : ℕ) (c : FlaggedClause) → clause_at a id ≡ Some c → literals_at a id ≡ c.literals
   found-literals a id c is = ap (λ (o : Option FlaggedClause). option_map_or (λ f. f.literals) o []) is
 
-  pub AreReordered-searched : (kept : List ClauseId) → AreKept h.arena kept → AreReordered (clauses_under h.arena kept) (clauses_under n.arena kept)
+  pub AreReordered-searched : (kept : List ClauseId) → AreHeldIds h.arena kept → AreReordered (clauses_under h.arena kept) (clauses_under n.arena kept)
   AreReordered-searched kept are = record {
     many = length-map kept (λ (x : ClauseId). literals_at n.arena x.0) ∙ sym (length-map kept (λ (x : ClauseId). literals_at h.arena x.0));
     same = λ k d within.
@@ -121,7 +124,7 @@ told-still None after u tells at = absurd (let no : true ≡ false = sym (ap is_
 told-still (Some t) after u tells at = (t, refl)
 
 -- what is told by the verdict, in one record for all verdicts
-tells-originals : (accepted : List (Part × Clause)) (h n : HeldView) (assumptions : Assumptions) (limit : Option ℕ) (v : Verdict) (t u : Told) → assumptions ≡ [] → IsVerdict h n assumptions limit v → IsToldOf h n assumptions v (Some t) (Some u) → AreAccepted accepted t → AreAccepted accepted u
+tells-originals : (accepted : List (Part × Clause)) (h n : HeldView) (assumptions : Assumptions) (limit : Option ℕ) (v : Verdict) (t u : Told) → assumptions ≡ [] → IsVerdict h n assumptions limit v → IsVerdictTold h n assumptions v (Some t) (Some u) → AreAccepted accepted t → AreAccepted accepted u
 tells-originals accepted h n assumptions limit Model t u none is told all =
     originals-kept accepted (held_clause h.arena) h.arena.given (λ id. ⊥) t u (λ id no. no) (told t u refl refl) all
 tells-originals accepted h n assumptions limit (Failed root places) t u none is told all =
@@ -131,14 +134,25 @@ tells-originals accepted h n assumptions limit (Limit lemmas) t u none is told a
     originals-kept accepted (held_clause h.arena) h.arena.given (λ id. ⊥) t u (λ id no. no) (told t u refl refl) all
 
 module _ (accepted : List (Part × Clause)) (h n : HeldView) (assumptions : Assumptions) (limit : Option ℕ) (none : assumptions ≡ []) where
-  pub originals-searched : (v : Verdict) (before after : Option Told) → is_some after ≡ is_some before → IsVerdict h n assumptions limit v → IsToldOf h n assumptions v before after → ForSome before (AreAccepted accepted) → ForSome after (AreAccepted accepted)
+  pub originals-searched : (v : Verdict) (before after : Option Told) → is_some after ≡ is_some before → IsVerdict h n assumptions limit v → IsVerdictTold h n assumptions v before after → ForSome before (AreAccepted accepted) → ForSome after (AreAccepted accepted)
   originals-searched v before after tells is told all u at =
       let t = told-still before after u tells at in
-      tells-originals accepted h n assumptions limit v t.0 u none is (subst (λ (a : Option Told). IsToldOf h n assumptions v (Some t.0) a) at (subst (λ (b : Option Told). IsToldOf h n assumptions v b after) t.1 told)) (all t.0 t.1)
+      tells-originals accepted h n assumptions limit v t.0 u none is (subst (λ (a : Option Told). IsVerdictTold h n assumptions v (Some t.0) a) at (subst (λ (b : Option Told). IsVerdictTold h n assumptions v b after) t.1 told)) (all t.0 t.1)
+
+-- each step from before is told still, whatever the verdict
+still-told : (h n : HeldView) (assumptions : Assumptions) (v : Verdict) (t u : Told) → TellsVerdict h n assumptions v t u → (s : ToldStep) → Contains t.steps s → IsStillTold u s
+still-told h n assumptions Model t u told s here = told.stay s here
+still-told h n assumptions (Failed root places) t u told s here = told.0.stay s here
+still-told h n assumptions (Limit lemmas) t u told s here = told.stay s here
+
+all-told-searched : (accepted : List (Part × Clause)) (h n : HeldView) (assumptions : Assumptions) (v : Verdict) (before after : Option Told) → is_some after ≡ is_some before → IsVerdictTold h n assumptions v before after → ForSome before (AreAllTold accepted) → ForSome after (AreAllTold accepted)
+all-told-searched accepted h n assumptions v before after tells told all u at =
+    let t = told-still before after u tells at in
+    AreAllTold-still accepted t.0 u (all t.0 t.1) (still-told h n assumptions v t.0 u (told t.0 u t.1 at))
 
 step-unforgotten : (u : Told) (s : ToldStep) → s.forgotten ≡ false → Contains u.steps s → IsUnforgotten u.steps s.id
 step-unforgotten u s kept here =
-    passes (λ (r : ToldStep). eqb r.id s.id && not r.forgotten) u.steps s here (rw (eq-eqb s.id s.id refl, kept) refl)
+    list_any-member (λ (r : ToldStep). eqb r.id s.id && not r.forgotten) u.steps s here (rw (eq-eqb s.id s.id refl, kept) refl)
 
 pub root-unforgotten : (n : HeldView) (assumptions : Assumptions) (root : ℕ) (places : List ℕ) (t u : Told) → IsRoot n assumptions root places t u → IsUnforgotten u.steps root
 root-unforgotten n assumptions root places t u is =
@@ -151,7 +165,7 @@ some-same a b is = cc
 abbrev pub StepsAreFound : Type 0
 StepsAreFound = (t : Told) (s : ToldStep) → IsTold t → Contains t.steps s → clause_told t.steps s.id ≡ Some s.literals
 
-root-searched : StepsAreFound → (h n : HeldView) (assumptions : Assumptions) (v : Verdict) (before after : Option Told) → is_some after ≡ is_some before → IsToldOf h n assumptions v before after → IsCovering after (held_clause n.arena) n.arena.given → IsRootOf after n.arena (root_of_verdict v)
+root-searched : StepsAreFound → (h n : HeldView) (assumptions : Assumptions) (v : Verdict) (before after : Option Told) → is_some after ≡ is_some before → IsVerdictTold h n assumptions v before after → IsCovering after (held_clause n.arena) n.arena.given → IsRootOf after n.arena (root_of_verdict v)
 root-searched found h n assumptions Model before after tells told covers id is = absurd (let no : None ≡ Some id = is in cc)
 root-searched found h n assumptions (Failed root places) before after tells told covers id is = λ u at.
     let t = told-still before after u tells at in
@@ -162,19 +176,24 @@ root-searched found h n assumptions (Failed root places) before after tells told
 root-searched found h n assumptions (Limit lemmas) before after tells told covers id is = absurd (let no : None ≡ Some id = is in cc)
 
 -- the state after a search, at level 0 again
-pub IsState-searched : ModelsOfArena → AreLookedUp → StepsAreFound → (before after : Option Told) (accepted : List (Part × Clause)) (h n m : HeldView) (o p : OrderView) (kept : List ClauseId) (old root : Option ClauseId) (assumptions : Assumptions) (limit : Option ℕ) (v : Verdict) → IsState before accepted h o kept old → assumptions ≡ [] → Leaves h n → IsVerdict h n assumptions limit v → IsToldOf h n assumptions v before after → is_some after ≡ is_some before → IsCovering after (held_clause n.arena) n.arena.given → root ≡ root_of_verdict v → IsAtRoot n m p → IsState after accepted m p kept root
-IsState-searched models looks_up found before after accepted h n m o p kept old root assumptions limit v state none left is told tells covers root_is at_root = record {
-  level = at_root.level;
+pub IsState-searched : ModelsOfArena → AreLookedUp → StepsAreFound → (s : StateView) (n m : HeldView) (o p : OrderView) (after : Option Told) (root : Option ClauseId) (assumptions : Assumptions) (limit : Option ℕ) (v : Verdict) → IsState s → assumptions ≡ [] → IsSearched s.held n o s.told after assumptions limit v → is_some after ≡ is_some s.told → o.dead ≡ s.order.dead → root ≡ root_of_verdict v → IsAtRoot n m p → p.dead ≡ o.dead → IsState (record s { held = m; order = p; told = after; root = root })
+IsState-searched models looks_up found s n m o p after root assumptions limit v state none searched tells alive root_is at_root still_alive = record {
+  begins = record {
+    level = at_root.level;
+    ready = at_root.ready;
+    covers = subst (λ (a : ArenaView). IsCovering after (held_clause a) a.given) (sym at_root.arena) searched.covers;
+  };
   consistent = at_root.consistent;
-  ready = at_root.ready;
-  covers = subst (λ (a : ArenaView). IsCovering after (held_clause a) a.given) (sym at_root.arena) covers;
-  clauses = subst (λ (a : ArenaView). AreHeldFor accepted a m.vars) (sym at_root.arena) (subst (AreHeldFor accepted n.arena) (sym (at_root.vars ∙ left.vars)) (AreHeldFor-searched h n left models looks_up accepted h.vars state.consistent.arena state.clauses));
-  kept_ids = subst (λ (a : ArenaView). AreKept a kept) (sym at_root.arena) (AreKept-searched h n left kept state.kept_ids);
-  originals = originals-searched accepted h n assumptions limit none v before after tells is told state.originals;
-  root_of = subst (λ (r : Option ClauseId). IsRootOf after m.arena r) (sym root_is) (subst (λ (a : ArenaView). IsRootOf after a (root_of_verdict v)) (sym at_root.arena) (root-searched found h n assumptions v before after tells told covers));
+  held_alive = at_root.dead ∙ searched.alive;
+  order_alive = still_alive ∙ alive ∙ state.order_alive;
+  clauses = subst (λ (a : ArenaView). AreHeldFor s.accepted a m.vars) (sym at_root.arena) (subst (AreHeldFor s.accepted n.arena) (sym (at_root.vars ∙ searched.leaves.vars)) (AreHeldFor-searched s.held n searched.leaves models looks_up s.accepted s.held.vars state.consistent.arena state.clauses));
+  ids = subst (λ (a : ArenaView). AreHeldIds a s.held_ids) (sym at_root.arena) (AreHeldIds-searched s.held n searched.leaves s.held_ids state.ids);
+  originals = originals-searched s.accepted s.held n assumptions limit none v s.told after tells searched.verdict searched.told state.originals;
+  all_told = all-told-searched s.accepted s.held n assumptions v s.told after tells searched.told state.all_told;
+  root_of = subst (λ (r : Option ClauseId). IsRootOf after m.arena r) (sym root_is) (subst (λ (a : ArenaView). IsRootOf after a (root_of_verdict v)) (sym at_root.arena) (root-searched found s.held n assumptions v s.told after tells searched.told searched.covers));
 }
 
 -- the held clauses after it
-pub AreReordered-kept : (h n m : HeldView) (o : OrderView) (a : ArenaView) (kept ids : List ClauseId) → Leaves h n → AreKept h.arena kept → IsAtRoot n m o → h.arena ≡ a → kept ≡ ids → AreReordered (clauses_under a ids) (clauses_under m.arena kept)
-AreReordered-kept h n m o a kept ids left are at_root arena same =
-    subst (λ (b : ArenaView). AreReordered (clauses_under a ids) (clauses_under b kept)) (sym at_root.arena) (subst (λ (b : ArenaView). AreReordered (clauses_under b ids) (clauses_under n.arena kept)) arena (subst (λ (xs : List ClauseId). AreReordered (clauses_under h.arena xs) (clauses_under n.arena kept)) same (AreReordered-searched h n left kept are)))
+pub AreReordered-ids : (h n m : HeldView) (o : OrderView) (ids : List ClauseId) → Leaves h n → AreHeldIds h.arena ids → IsAtRoot n m o → AreReordered (clauses_under h.arena ids) (clauses_under m.arena ids)
+AreReordered-ids h n m o ids left are at_root =
+    subst (λ (a : ArenaView). AreReordered (clauses_under h.arena ids) (clauses_under a ids)) (sym at_root.arena) (AreReordered-searched h n left ids are)

@@ -1,12 +1,17 @@
 -- What a solver answers.
-use Rattle.std.specs.Prelude.{◌≡◌, ℕ, List, ◌++◌, Option, Some, None, length}
+use Rattle.std.specs.Prelude.{◌≡◌, ℕ, List, ◌++◌, Option, Some, None, length, map}
 use Rattle.craig_spec.specs.Literal.{Clause}
 use Rattle.craig_spec.specs.Truth.{IsModel, AreContradictory}
 use Rattle.craig_base.specs.LemmaRule.{MeetsLemmaRule}
+use Rattle.craig_base.specs.declared.script_part.Part.{Part}
 use Rattle.craig_base.specs.Values.{assignment_of_values}
 use Rattle.craig_search.specs.Verdict.{Assumptions, AreFirstPlaces, at_places, units}
 use Rattle.craig_solver.specs.declared.answer.Answer.{Answer}
 use Rattle.craig_solver.specs.declared.answer.Answer.TheVariants.{Model, Failed, Limit}
+
+-- the accepted clauses without their parts
+abbrev pub accepted_clauses : List (Part × Clause) → List Clause
+accepted_clauses accepted = map (λ a. a.1) accepted
 
 -- what the answer says of the accepted clauses and the assumptions: a model of them all; assumptions by their first places that the clauses contradict; or as many lemmas as the limit
 abbrev pub IsAnswer : List Clause → ℕ → Assumptions → Option ℕ → Answer → Type 0

@@ -1,5 +1,5 @@
 pub mod Answer
 pub mod Settling
+pub mod Told
 pub mod Solver
 pub mod State
-pub mod Told

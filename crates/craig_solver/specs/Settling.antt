@@ -14,9 +14,11 @@ use Rattle.craig_search.specs.declared.verdict.Verdict.TheVariants as verdict
 use Rattle.craig_solver.specs.declared.answer.Answer.{Answer}
 use Rattle.craig_solver.specs.declared.answer.Answer.TheVariants as answer
 
--- each literal that is true on the trail is true under the values, which are those of the known variables
+-- the values on a trail
 pub record AreValuesOf (vars : ℕ) (t : Trail) (values : List Bool) : Type 0 where
+  -- there is one of each known variable
   pub many : length values ≡ vars
+  -- each literal that is true on the trail is true under them
   pub literals : (l : Literal) → value_under t l ≡ True → IsTrue (literal_value (assignment_of_values values) l)
 
 -- where the verdict is a model, every known variable is assigned
@@ -33,12 +35,19 @@ IsAnswerFor h verdict.Model (answer.Limit lemmas) = ⊥
 IsAnswerFor h (verdict.Failed root places) a = a ≡ answer.Failed root places
 IsAnswerFor h (verdict.Limit lemmas) a = a ≡ answer.Limit lemmas
 
--- the clauses and variables are as before, and the level is 0, where every free variable was given back
+-- a search is over, and the next one may begin
 pub record IsAtRoot (old new : HeldView) (o : OrderView) : Type 0 where
+  -- the clauses are as before
   pub arena : new.arena ≡ old.arena
+  -- and so are the known variables
   pub vars : new.vars ≡ old.vars
+  -- and whether memory was refused
+  pub dead : new.dead ≡ old.dead
+  -- nothing is decided
   pub level : new.level ≡ 0
+  -- the order has each free variable
   pub ready : IsReady new o
+  -- the clauses and their trail are as they are after every call
   pub consistent : IsConsistent new
 
 -- the root that a verdict has

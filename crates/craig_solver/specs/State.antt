@@ -1,61 +1,118 @@
 -- What a solver keeps between calls.
-use Rattle.std.specs.Prelude.{◌≡◌, ℕ, ◌<◌, false, List, [], Option, Some, None, All, AllPairs, Contains, IsTrue, map}
+use Rattle.std.specs.Prelude.{◌≡◌, ℕ, ◌<◌, false, List, [], ◌∷◌, ◌++◌, Option, Some, None, All, AllPairs, Contains, IsTrue, map}
 use Rattle.std.specs.Option.{ForSome, option_map}
 use Rattle.craig_spec.specs.Literal.{Clause}
-use Rattle.craig_spec.specs.Chain.{SameLiterals, Told, IsUnforgotten, clause_told}
+use Rattle.craig_spec.specs.Chain.{SameLiterals, Told, IsUnforgotten, clause_told, without_id}
 use Rattle.craig_spec.specs.Occurs.{Occurs, occurs_in_clause}
 use Rattle.craig_spec.specs.Truth.{Implies, clause_value}
 use Rattle.craig_base.specs.Arena.{ArenaView, FlaggedClause, clause_at, literals_at}
 use Rattle.craig_base.specs.Clauses.{IsTautology}
 use Rattle.craig_base.specs.declared.clause_id.ClauseId.{ClauseId}
 use Rattle.craig_base.specs.declared.script_part.Part.{Part}
-use Rattle.craig_proof.specs.Covers.{IsCovering}
 use Rattle.craig_watch.specs.Held.{HeldView, IsConsistent, held_clause}
 use Rattle.craig_order.specs.Order.{OrderView}
-use Rattle.craig_search.specs.Leaves.{IsReady}
-use Rattle.craig_solver.specs.Solver.{accepted_clauses}
-use Rattle.craig_solver.specs.Told.{AreAccepted}
+use Rattle.craig_search.specs.Search.{MayBegin}
+use Rattle.craig_solver.specs.declared.state.State.{State}
+use Rattle.craig_solver.specs.Answer.{accepted_clauses}
+use Rattle.craig_solver.specs.Solver.{SolverView}
+use Rattle.craig_solver.specs.Told.{AreAccepted, AreAllTold}
 
--- a clause with these literals in any order is held, and isn't learnt
-pub record IsHeld (a : ArenaView) (c : Clause) : Type 0 where
-  pub id : ℕ
-  pub clause : FlaggedClause
-  pub live : clause_at a id ≡ Some clause
-  pub literals : SameLiterals c clause.literals
-  pub not_learnt : clause.flags.learnt ≡ false
+-- what a solver keeps, with what its tracer was told
+pub record StateView : Type 0 where
+  -- the accepted clauses as they were written, with their parts
+  pub accepted : List (Part × Clause)
+  -- the held clauses and their trail
+  pub held : HeldView
+  -- the order of decisions
+  pub order : OrderView
+  -- what the tracer was told, where it tells its meaning
+  pub told : Option Told
+  -- the ids of the held clauses that are not learnt
+  pub held_ids : List ClauseId
+  -- the empty clause of the last refutation, until the next search
+  pub root : Option ClauseId
+
+-- the view of a state whose tracer has this meaning
+abbrev pub state_with : {T : Type 0} → Option Told → State T → StateView
+state_with told s = record { accepted = s.accepted.items; held = s.held; order = s.order; told = told; held_ids = s.held_ids.items; root = s.root }
+
+-- one clause more is accepted
+abbrev pub accepting : Part → Clause → StateView → StateView
+accepting part clause s = record s { accepted = s.accepted ++ (part, clause) ∷ [] }
 
 -- the clauses that are held under the ids
 abbrev pub clauses_under : ArenaView → List ClauseId → List Clause
 clauses_under a ids = map (λ id. literals_at a id.0) ids
 
--- the ids of the held clauses that are not learnt, rising
-pub record AreKept (a : ArenaView) (kept : List ClauseId) : Type 0 where
-  pub rising : AllPairs (λ x y. x.0 < y.0) kept
-  pub held : All (λ x. (c : FlaggedClause) × (clause_at a x.0 ≡ Some c) × (c.flags.learnt ≡ false)) kept
-  pub every : (id : ℕ) (c : FlaggedClause) → clause_at a id ≡ Some c → c.flags.learnt ≡ false → (x : ClauseId) × Contains kept x × (x.0 ≡ id)
-
--- the accepted clauses are held but for tautologies, and what is held follows from them and has variables of theirs alone
-pub record AreHeldFor (accepted : List (Part × Clause)) (a : ArenaView) (vars : ℕ) : Type 0 where
-  pub known : All (λ p. All (λ l. l.var < vars) p.1) accepted
-  pub held : (p : Part × Clause) → Contains accepted p → ¬ IsTautology p.1 → IsHeld a p.1
-  pub implied : (id : ℕ) (c : Clause) → held_clause a id ≡ Some c → Implies (accepted_clauses accepted) (λ s. IsTrue (clause_value s c))
-  pub variables : (id x : ℕ) (c : Clause) → held_clause a id ≡ Some c → IsTrue (occurs_in_clause x c) → Occurs x (accepted_clauses accepted)
-
 -- the number of a root
 abbrev pub root_number : Option ClauseId → Option ℕ
 root_number root = option_map (λ id. id.0) root
+
+-- a solver that isn't dead, as contracts see it
+abbrev pub living_view : {T : Type 0} → State T → SolverView T
+living_view s = record { accepted = s.accepted.items; vars = s.held.vars; held = clauses_under s.held.arena s.held_ids.items; tracer = s.tracer; root = root_number s.root; dead = false }
+
+-- a clause with these literals in any order is held, and isn't learnt
+pub record IsHeld (a : ArenaView) (c : Clause) : Type 0 where
+  -- its id
+  pub id : ℕ
+  -- it with its flags
+  pub clause : FlaggedClause
+  -- it is held under the id
+  pub live : clause_at a id ≡ Some clause
+  -- it has the literals
+  pub literals : SameLiterals c clause.literals
+  -- it isn't learnt
+  pub not_learnt : clause.flags.learnt ≡ false
+
+-- the ids of the held clauses that are not learnt
+pub record AreHeldIds (a : ArenaView) (ids : List ClauseId) : Type 0 where
+  -- they rise
+  pub rising : AllPairs (λ x y. x.0 < y.0) ids
+  -- such a clause is held under each of them
+  pub held : All (λ x. (c : FlaggedClause) × (clause_at a x.0 ≡ Some c) × (c.flags.learnt ≡ false)) ids
+  -- each such clause has one of them
+  pub every : (id : ℕ) (c : FlaggedClause) → clause_at a id ≡ Some c → c.flags.learnt ≡ false → (x : ClauseId) × Contains ids x × (x.0 ≡ id)
+
+-- what is held of the accepted clauses
+pub record AreHeldFor (accepted : List (Part × Clause)) (a : ArenaView) (vars : ℕ) : Type 0 where
+  -- their variables are known
+  pub known : All (λ p. All (λ l. l.var < vars) p.1) accepted
+  -- each that is no tautology is held
+  pub held : (p : Part × Clause) → Contains accepted p → ¬ IsTautology p.1 → IsHeld a p.1
+  -- what is held follows from them
+  pub implied : (id : ℕ) (c : Clause) → held_clause a id ≡ Some c → Implies (accepted_clauses accepted) (λ s. IsTrue (clause_value s c))
+  -- and has variables of theirs alone
+  pub variables : (id x : ℕ) (c : Clause) → held_clause a id ≡ Some c → IsTrue (occurs_in_clause x c) → Occurs x (accepted_clauses accepted)
 
 -- where the meaning is told, the root, if there is one, isn't forgotten, its clause is empty, and no clause is held under its id
 abbrev pub IsRootOf : Option Told → ArenaView → Option ClauseId → Type 0
 IsRootOf told a root = (id : ClauseId) → root ≡ Some id → ForSome told (λ t. IsUnforgotten t.steps id.0 × (clause_told t.steps id.0 ≡ Some []) × (held_clause a id.0 ≡ None))
 
 -- what is true of a solver that isn't dead
-pub record IsState (told : Option Told) (accepted : List (Part × Clause)) (h : HeldView) (o : OrderView) (kept : List ClauseId) (root : Option ClauseId) : Type 0 where
-  pub level : h.level ≡ 0
-  pub consistent : IsConsistent h
-  pub ready : IsReady h o
-  pub covers : IsCovering told (held_clause h.arena) h.arena.given
-  pub clauses : AreHeldFor accepted h.arena h.vars
-  pub kept_ids : AreKept h.arena kept
-  pub originals : ForSome told (AreAccepted accepted)
-  pub root_of : IsRootOf told h.arena root
+pub record IsState (s : StateView) : Type 0 where
+  -- a search may begin
+  pub begins : MayBegin s.held s.order s.told
+  -- the clauses and their trail are as they are after every call
+  pub consistent : IsConsistent s.held
+  -- they live
+  pub held_alive : s.held.dead ≡ false
+  -- and so does the order
+  pub order_alive : s.order.dead ≡ false
+  -- the accepted clauses are held
+  pub clauses : AreHeldFor s.accepted s.held.arena s.held.vars
+  -- the ids are those of the clauses that are not learnt
+  pub ids : AreHeldIds s.held.arena s.held_ids
+  -- each original that was told is an accepted clause
+  pub originals : ForSome s.told (AreAccepted s.accepted)
+  -- and each accepted clause that is no tautology was told
+  pub all_told : ForSome s.told (AreAllTold s.accepted)
+  -- the root is that of a refutation
+  pub root_of : IsRootOf s.told s.held.arena s.root
+
+-- the root of the last refutation is forgotten
+pub record ForgetsRoot (old new : StateView) : Type 0 where
+  -- there is none, and all else is as before
+  pub rest : new ≡ record old { told = new.told; root = None }
+  -- the tracer was told so
+  pub told : (id : ClauseId) → old.root ≡ Some id → new.told ≡ option_map (without_id id.0) old.told

@@ -1,44 +1,78 @@
 -- What a solver tells a tracer that tells its meaning.
-use Rattle.std.specs.Prelude.{◌≡◌, ◌⊎◌, ℕ, false, List, [], ◌∷◌, Contains}
+use Rattle.std.specs.Prelude.{◌≡◌, ◌⊎◌, ℕ, false, List, [], ◌∷◌, Option, Contains}
 use Rattle.craig_spec.specs.Literal.{Literal, Clause}
 use Rattle.craig_spec.specs.Chain.{ChainStep, Original, Derived, SameLiterals, Told, ToldStep, IsTold, IsUnforgotten}
 use Rattle.craig_spec.specs.Needed.{IsNeeded, IsOriginal}
-use Rattle.craig_base.specs.Clauses.{IsNormal}
+use Rattle.craig_base.specs.Clauses.{IsNormal, IsTautology}
+use Rattle.craig_proof.specs.Tracer.{Appends, original_step}
 use Rattle.craig_base.specs.declared.script_part.Part.{Part}
 use Rattle.craig_search.specs.Verdict.{Assumptions, at_places}
 use Rattle.craig_solver.specs.declared.answer.Answer.{Answer}
 use Rattle.craig_solver.specs.declared.answer.Answer.TheVariants.{Model, Failed, Limit}
 
--- an accepted clause that is no tautology, told with its part: its literals in any order and without repeats
+-- the step of an accepted clause that is no tautology
 pub record IsAcceptedStep (accepted : List (Part × Clause)) (s : ToldStep) : Type 0 where
+  -- the part and the clause as it was written
   pub pair : Part × Clause
+  -- it was accepted
   pub is_accepted : Contains accepted pair
+  -- it was told with its part
   pub part : s.origin ≡ Original pair.0.0
+  -- its literals in any order
   pub literals : SameLiterals pair.1 s.literals
+  -- and without repeats
   pub normal : IsNormal s.literals
 
 -- each original is an accepted clause
 abbrev pub AreAccepted : List (Part × Clause) → Told → Type 0
 AreAccepted accepted t = (s : ToldStep) → Contains t.steps s → IsOriginal s.origin → IsAcceptedStep accepted s
 
--- the steps stand on one another, and each original is an accepted clause
-pub record IsToldOf (accepted : List (Part × Clause)) (t : Told) : Type 0 where
-  pub stand : IsTold t
-  pub originals : AreAccepted accepted t
+-- the accepted clause is told as an original of its part, its literals in any order
+abbrev pub IsClauseTold : Told → Part × Clause → Type 0
+IsClauseTold t p = (s : ToldStep) × Contains t.steps s × (s.origin ≡ Original p.0.0) × SameLiterals p.1 s.literals
 
--- the unit clause of an assumption at one of the places, told with its part
+-- each accepted clause that is no tautology is told
+abbrev pub AreAllTold : List (Part × Clause) → Told → Type 0
+AreAllTold accepted t = (p : Part × Clause) → Contains accepted p → ¬ IsTautology p.1 → IsClauseTold t p
+
+-- what was told of the accepted clauses
+pub record IsToldOf (accepted : List (Part × Clause)) (t : Told) : Type 0 where
+  -- the steps stand on one another
+  pub stand : IsTold t
+  -- each original is an accepted clause
+  pub originals : AreAccepted accepted t
+  -- and each accepted clause that is no tautology is an original
+  pub all_told : AreAllTold accepted t
+
+-- an accepted clause is told
+pub record TellsNext (part : Part) (clause : Clause) (before after : Option Told) : Type 0 where
+  -- but of a tautology nothing is
+  pub tautology : IsTautology clause → after ≡ before
+  -- every other one is an original of its part, without repeats
+  pub normal : ¬ IsTautology clause → (id : ℕ) × (d : Clause) × SameLiterals clause d × IsNormal d × Appends before after (original_step id part.0 d)
+
+-- the step of the unit clause of a failed assumption
 pub record IsUnitStep (assumptions : Assumptions) (places : List ℕ) (s : ToldStep) : Type 0 where
+  -- the part and the literal that was assumed
   pub assumed : Part × Literal
+  -- it stands at one of the places
   pub at_place : Contains (at_places assumptions places) assumed
+  -- it was told with its part
   pub part : s.origin ≡ Original assumed.0.0
+  -- and is the only literal
   pub literals : s.literals ≡ assumed.1 ∷ []
 
--- the root is an empty clause that was derived and isn't forgotten, and it needs accepted clauses and units of failed assumptions alone
+-- a refutation was told
 pub record IsRefutation (accepted : List (Part × Clause)) (assumptions : Assumptions) (root : ℕ) (places : List ℕ) (t : Told) : Type 0 where
+  -- the first antecedent of the empty clause
   pub first : ℕ
+  -- its other antecedents
   pub rest : List ChainStep
+  -- it was told under the root
   pub told : Contains t.steps (record { id = root; literals = []; origin = Derived first rest; forgotten = false })
+  -- which isn't forgotten
   pub unforgotten : IsUnforgotten t.steps root
+  -- of the originals it needs accepted clauses and units of failed assumptions alone
   pub needs : (s : ToldStep) → Contains t.steps s → IsOriginal s.origin → IsNeeded t.steps root s.id → IsAcceptedStep accepted s ⊎ IsUnitStep assumptions places s
 
 -- by the answer: only a refutation is told

@@ -1,3 +1,4 @@
+//! The answer of a solver.
 use craig_base::{ClauseId, Values};
 use craig_search::{Journal, Places};
 

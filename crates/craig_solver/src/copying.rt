@@ -4,7 +4,7 @@ ghost use Rattle.std.specs.Prelude.{◌≡◌, IfOk};
 use craig_base::{Lit, Lits};
 use std::alloc::{AllocError, Global};
 
-// The literals in their order, with repeats.
+/// The literals in their order, with repeats.
 pub(crate) fn copy_of(alloc: Global, lits: &[Lit]) -> Result<Lits, AllocError>
     ensures { IfOk result (λ copy. copy ≡ lits.now) }
 {

@@ -17,7 +17,7 @@ use craig_search::Verdict;
 use craig_watch::{Held, Value};
 use std::alloc::{AllocError, Global};
 
-// The answer for a verdict. A model is read from the trail, and then the level is 0 again.
+/// The answer for a verdict. A model is read from the trail, and then the level is 0 again.
 pub(crate) fn answer_for(
     alloc: Global,
     held: &mut Held,
@@ -28,6 +28,8 @@ pub(crate) fn answer_for(
     requires assigned { AssignsAll held.old verdict }
     ensures answer { IfOk result (IsAnswerFor held.old verdict) }
     ensures at_root { OnOk result (IsAtRoot held.old held.new order.new) }
+    ensures vars { held.new.vars ≡ held.old.vars }
+    ensures order { order.new.dead ≡ order.old.dead }
 {
     match verdict {
         Verdict::Model => Ok(Answer::Model(read_model(alloc, held, order)?)),
@@ -42,7 +44,7 @@ pub(crate) fn answer_for(
     }
 }
 
-// The values on a trail that assigns every variable. Then the variables are given back, and the level is 0.
+/// The values on a trail that assigns every variable. Then the variables are given back, and the level is 0.
 fn read_model(alloc: Global, held: &mut Held, order: &mut Order) -> Result<Values, AllocError>
     requires known { length order.old.given_back ≡ held.old.vars }
     requires assigned { (v : ℕ) → v < held.old.vars → IsAssigned held.old.trail v }
@@ -50,6 +52,8 @@ fn read_model(alloc: Global, held: &mut Held, order: &mut Order) -> Result<Value
     ensures back { OnOk result (held.new ≡ record held.old { trail = part_up_to 0 held.old.trail; level = 0 }) }
     ensures ready { OnOk result (IsReady held.new order.new) }
     ensures consistent { OnOk result (IsConsistent held.new) }
+    ensures vars { held.new.vars ≡ held.old.vars }
+    ensures order { order.new.dead ≡ order.old.dead }
 {
     craig_watch::laws::entries_have_places();
     let values = values_of(alloc, held)?;
@@ -58,7 +62,7 @@ fn read_model(alloc: Global, held: &mut Held, order: &mut Order) -> Result<Value
     Ok(values)
 }
 
-// The values of the known variables on the trail, where a free one is false.
+/// The values of the known variables on the trail, where a free one is false.
 fn values_of(alloc: Global, held: &Held) -> Result<Values, AllocError>
     requires assigned { (v : ℕ) → v < held.now.vars → IsAssigned held.now.trail v }
     ensures { IfOk result (AreValuesOf held.now.vars held.now.trail) }
@@ -74,18 +78,19 @@ fn values_of(alloc: Global, held: &Held) -> Result<Values, AllocError>
     Ok(values)
 }
 
-// Gives the variables of the literals back.
+/// Gives the variables of the literals back.
 fn give_back_each(order: &mut Order, lits: &[Lit])
     requires { All (λ l. l.var < length order.old.given_back) lits.now }
     ensures known { length order.new.given_back ≡ length order.old.given_back }
     ensures given { All (λ l. is_given_back order.new l.var ≡ true) lits.now }
+    ensures dead { order.new.dead ≡ order.old.dead }
 {
     for lit in lits {
         order.give_back(lit.var());
     }
 }
 
-// The id of the empty clause, where the verdict is a refutation.
+/// The id of the empty clause, where the verdict is a refutation.
 pub(crate) fn root_of(verdict: &Verdict) -> Option<ClauseId>
     ensures { result ≡ root_of_verdict verdict.now }
 {
@@ -95,7 +100,7 @@ pub(crate) fn root_of(verdict: &Verdict) -> Option<ClauseId>
     }
 }
 
-// Tells a tracer that the root, if there is one, is done with.
+/// Tells a tracer that the root, if there is one, is done with.
 pub(crate) fn forget_told<T: Tracer>(tracer: &mut T, root: Option<ClauseId>)
     requires { (id : ClauseId) → root ≡ Some id → ForSome (T.told tracer.old) (λ t. IsUnforgotten t.steps id.0) }
     ensures none { root ≡ None → T.told tracer.new ≡ T.told tracer.old }

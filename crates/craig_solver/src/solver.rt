@@ -1,10 +1,11 @@
-//! The incremental solver.
-ghost use Rattle.std.specs.Prelude.{◌≡◌, ◌≢◌, ℕ, ◌<◌, ◌≤◌, [], ◌∷◌, ◌++◌, true, false, Some, None, All, IfOk, OnOk, OnErr, IsErr, is_some, length, max, slice_index_or};
+//! The incremental solver, which keeps what a search has learnt for the next one: Eén and Sörensson, "Temporal Induction
+//! by Incremental SAT Solving", Electronic Notes in Theoretical Computer Science 89(4), 2003.
+ghost use Rattle.std.specs.Prelude.{◌≡◌, ◌≢◌, ℕ, ◌<◌, ◌≤◌, [], true, false, Some, None, All, IfOk, OnOk, OnErr, IsErr, is_some, length, max, slice_index_or};
 ghost use Rattle.std.specs.Option.{ForSome};
 ghost use Rattle.craig_spec.specs.Chain.{IsUnforgotten, clause_told, nothing_told};
-ghost use Rattle.craig_solver.specs.Answer.{IsAnswer, root_of_answer};
-ghost use Rattle.craig_solver.specs.Solver.{AreReordered, StandFor, accepted_clauses};
-ghost use Rattle.craig_solver.specs.Told.{IsToldOf, TellsAnswer};
+ghost use Rattle.craig_solver.specs.Answer.{accepted_clauses};
+ghost use Rattle.craig_solver.specs.Solver.{IsAdded, IsSolved, StandFor};
+ghost use Rattle.craig_solver.specs.Told.{IsToldOf};
 
 use crate::Answer;
 use crate::state::State;
@@ -28,13 +29,13 @@ pub struct Solver<T: Tracer> {
 impl<T: Tracer> Model for Solver<T> {
     ghost use Rattle.std.specs.Prelude.{◌≡◌, false, [], None, if◌then◌else◌};
     ghost use Rattle.craig_solver.specs.Solver.{SolverView};
-    ghost use Rattle.craig_solver.specs.State.{IsState, clauses_under, root_number};
+    ghost use Rattle.craig_solver.specs.State.{IsState, clauses_under, root_number, state_with};
 
     ghost Value = { SolverView T };
 
-    ghost view = { λ s. record { accepted = s.state.accepted.items; vars = s.state.held.vars; held = if s.dead then [] else clauses_under s.state.held.arena s.state.kept.items; tracer = s.state.tracer; root = if s.dead then None else root_number s.state.root; dead = s.dead } };
+    ghost view = { λ s. record { accepted = s.state.accepted.items; vars = s.state.held.vars; held = if s.dead then [] else clauses_under s.state.held.arena s.state.held_ids.items; tracer = s.state.tracer; root = if s.dead then None else root_number s.state.root; dead = s.dead } };
 
-    ghost invariant = { λ s. s.dead ≡ false → IsState (T.told s.state.tracer) s.state.accepted.items s.state.held s.state.order s.state.kept.items s.state.root };
+    ghost invariant = { λ s. s.dead ≡ false → IsState (state_with (T.told s.state.tracer) s.state) };
 }
 
 impl<T: Tracer> Solver<T> {
@@ -50,11 +51,12 @@ impl<T: Tracer> Solver<T> {
         }
     }
 
-    /// Makes all variables below `vars` known. No variable becomes unknown.
+    /// Makes all variables below `vars` known. No variable becomes unknown. After an error some of them may be known.
     pub fn reach(&mut self, vars: u32) -> Result<(), AllocError>
         requires { vars ≤ 2147483648 }
         ensures reached { OnOk result (self.new ≡ record self.old { vars = max self.old.vars vars }) }
         ensures accepted { self.new.accepted ≡ self.old.accepted }
+        ensures alive { OnOk result (self.new.dead ≡ false) }
         ensures dead { OnErr result (self.new.dead ≡ true) }
         ensures refused { self.old.dead ≡ true → IsErr result }
         ensures tells { is_some (T.told self.new.tracer) ≡ is_some (T.told self.old.tracer) }
@@ -70,14 +72,15 @@ impl<T: Tracer> Solver<T> {
     }
 
     /// Accepts a clause of a part: literals of known variables, in any order, with repeats or opposite ones. It is
-    /// stored as written. Unless it is a tautology, it is held without repeats, and the tracer is told of it.
+    /// stored as written. Unless it is a tautology, it is held without repeats, behind the clauses that were held
+    /// before, and the tracer is told of it as an original of its part: also where the same clause or an empty one is
+    /// held. The known variables stay the same, after an error too.
     pub fn add(&mut self, part: Part, lits: &[Lit]) -> Result<(), AllocError>
         requires { All (λ l. l.var < self.old.vars) lits.now }
-        ensures accepted { OnOk result (self.new.accepted ≡ self.old.accepted ++ (part, lits.now) ∷ []) }
-        ensures vars { OnOk result (self.new.vars ≡ self.old.vars) }
-        ensures alive { OnOk result (self.new.dead ≡ false) }
+        ensures added { OnOk result (IsAdded part lits.now (T.told self.old.tracer) (T.told self.new.tracer) self.old self.new) }
         ensures unchanged { OnErr result (self.new.accepted ≡ self.old.accepted) }
-        ensures root { OnOk result (self.new.root ≡ self.old.root) }
+        ensures vars { self.new.vars ≡ self.old.vars }
+        ensures alive { OnOk result (self.new.dead ≡ false) }
         ensures dead { OnErr result (self.new.dead ≡ true) }
         ensures refused { self.old.dead ≡ true → IsErr result }
         ensures tells { is_some (T.told self.new.tracer) ≡ is_some (T.told self.old.tracer) }
@@ -110,13 +113,9 @@ impl<T: Tracer> Solver<T> {
         requires limit { limit ≢ Some 0 }
         requires no_assumption { assumptions.now ≡ [] }
         requires no_limit { limit ≡ None }
-        ensures answer { IfOk result (IsAnswer (accepted_clauses self.old.accepted) self.old.vars assumptions.now limit) }
-        ensures told { IfOk result (λ a. ForSome (T.told self.new.tracer) (TellsAnswer self.old.accepted assumptions.now a)) }
-        ensures root { IfOk result (λ a. self.new.root ≡ root_of_answer a) }
-        ensures forgets { OnOk result ((root : ℕ) → self.old.root ≡ Some root → ForSome (T.told self.new.tracer) (λ t. ¬ IsUnforgotten t.steps root)) }
+        ensures solved { IfOk result (IsSolved self.old self.new (T.told self.new.tracer) assumptions.now limit) }
         ensures accepted { self.new.accepted ≡ self.old.accepted }
-        ensures vars { OnOk result (self.new.vars ≡ self.old.vars) }
-        ensures held { OnOk result (AreReordered self.old.held self.new.held) }
+        ensures vars { self.new.vars ≡ self.old.vars }
         ensures alive { OnOk result (self.new.dead ≡ false) }
         ensures dead { OnErr result (self.new.dead ≡ true) }
         ensures refused { self.old.dead ≡ true → IsErr result }
@@ -156,7 +155,7 @@ impl<T: Tracer> Solver<T> {
         if self.dead {
             return 0;
         }
-        self.state.kept.len()
+        self.state.held_ids.len()
     }
 
     /// The literals of a held clause that is not learnt, in any order. These clauses are counted from 0, in the order
@@ -165,13 +164,13 @@ impl<T: Tracer> Solver<T> {
         requires { place < length self.now.held }
         ensures { result.now ≡ slice_index_or self.now.held place [] }
     {
-        let id = self.state.kept[place];
+        let id = self.state.held_ids[place];
         self.state.held.arena().lits(id)
     }
 
     /// The tracer. Where it tells its meaning, the steps that it keeps stand on one another, each original is an
-    /// accepted clause, and the root of the last answer, if that was a refutation, is an empty clause that isn't
-    /// forgotten.
+    /// accepted clause, each accepted clause that is no tautology is an original, and the root of the last answer, if
+    /// that was a refutation, is an empty clause that isn't forgotten.
     pub fn tracer(&self) -> &T
         ensures value { result.now ≡ self.now.tracer }
         ensures told { self.now.dead ≡ false → ForSome (T.told self.now.tracer) (IsToldOf self.now.accepted) }

@@ -23,5 +23,6 @@ loop-lit-preserved c =
     record {
       known = c.give_back.ensures.known ∙ ap (λ (o : OrderView). length o.given_back) c.save.ensures ∙ c.loop-lit.invariant.known;
       kept = λ v was. given_back-kept order c.save.new.self c.give_back.new.self c.var.result.0 v c.save.ensures c.give_back.ensures (c.loop-lit.invariant.kept v was);
+      dead = c.give_back.ensures.dead ∙ ap (λ (o : OrderView). o.dead) c.save.ensures ∙ c.loop-lit.invariant.dead;
       given = λ k d low. below_more (λ j. is_given_back c.give_back.new.self (get_or c.args.lits.now j d).var ≡ true) i (λ j before. given_back-kept order c.save.new.self c.give_back.new.self c.var.result.0 (get_or c.args.lits.now j d).var c.save.ensures c.give_back.ensures (c.loop-lit.invariant.given j d before)) (given_back-here c.save.new.self c.give_back.new.self c.var.result.0 (get_or c.args.lits.now i d).var c.give_back.ensures (ap (λ (l : Literal). l.var) (sym (get_or_read c.args.lits.now i c.lit-item.result c.loop-lit-test.true c.lit-item.is d)) ∙ sym c.var.ensures.value)) k low;
     }

@@ -23,24 +23,19 @@ pub derived-requires-clause-chain : goal.derived-requires-clause-chain
 derived-requires-clause-chain g c =
     rw (c.as_slice-lits.ensures, c.as_slice-rest.ensures) (c.covered_chain_is_told.ensures.chain _ _ _ _ _ _ c.requires.covers c.requires.derived.chain)
 
-pub returns-clause-searching : goal.returns-clause-searching
-returns-clause-searching g c =
+pub returns-clause-goes_on : goal.returns-clause-goes_on
+returns-clause-goes_on g c =
     let old = c.args.held.now in
     let held = c.in_ok-id.ensures.held in
     let given : c.hold.new.self.arena.given ≡ old.arena.given + 1 = ap (λ (h : HeldView). h.arena.given) held in
     let chain = subst (λ (d : Clause). ChainOk (held_clause old.arena) d c.args.learnt.now.first.0 (chain_of c.args.learnt.now.rest)) (sym c.as_slice-lits.ensures) c.requires.derived.chain in
-    let new = subst (IsNew old.arena) (sym c.as_slice-lits.ensures) c.requires.new in
-    λ start search. record {
-      leaves = Leaves-learnt c.chain_follows.ensures.follows c.chain_variables.ensures.variables start old c.hold.new.self c.in_ok-id.id.0 _ _ _ search.leaves (ap (λ (h : HeldView). h.vars) held) given c.in_ok-id.ensures.next c.in_ok-id.ensures.fresh c.in_ok-id.ensures.only refl chain;
-      journal = IsJournal-learnt start.arena.given old.arena c.hold.new.self.arena c.in_ok-id.id.0 _ search.journal given c.in_ok-id.ensures.next c.in_ok-id.ensures.fresh c.in_ok-id.ensures.only c.in_ok-id.ensures.consistent.arena new;
-    }
-
-pub returns-clause-learnt : goal.returns-clause-learnt
-returns-clause-learnt g c =
-    let old = c.args.held.now in
-    let chain = subst (λ (d : Clause). ChainOk (held_clause old.arena) d c.args.learnt.now.first.0 (chain_of c.args.learnt.now.rest)) (sym c.as_slice-lits.ensures) c.requires.derived.chain in
     let chain_too = subst (λ (xs : List Step). ChainOk (held_clause old.arena) c.as_slice-lits.result.now c.args.learnt.now.first.0 (chain_of xs)) (sym c.as_slice-rest.ensures) chain in
-    λ start before search learnt. TellsLearnt-told start before _ _ _ learnt c.in_ok-derived.ensures.told (derived-of_search c.chain_variables.ensures.given (λ (id : ℕ). ⊥) start old _ _ _ _ search.leaves c.in_ok-id.ensures.next chain_too)
+    let new = subst (IsNew old.arena) (sym c.as_slice-lits.ensures) c.requires.new in
+    λ start before search. record {
+      leaves = Leaves-learnt c.chain_follows.ensures.follows c.chain_variables.ensures.variables start old c.hold.new.self c.in_ok-id.id.0 _ _ _ search.leaves (ap (λ (h : HeldView). h.vars) held) (ap (λ (h : HeldView). h.dead) held) given c.in_ok-id.ensures.next c.in_ok-id.ensures.fresh c.in_ok-id.ensures.only refl chain;
+      journal = IsJournal-learnt start.arena.given old.arena c.hold.new.self.arena c.in_ok-id.id.0 _ search.journal given c.in_ok-id.ensures.next c.in_ok-id.ensures.fresh c.in_ok-id.ensures.only c.in_ok-id.ensures.consistent.arena new;
+      tells = TellsLearnt-told start before _ _ _ search.tells c.in_ok-derived.ensures.told (derived-of_search c.chain_variables.ensures.given (λ (id : ℕ). ⊥) start old _ _ _ _ search.leaves c.in_ok-id.ensures.next chain_too);
+    }
 
 pub returns-clause-covers : goal.returns-clause-covers
 returns-clause-covers g c =

@@ -9,8 +9,8 @@ use Rattle.craig_search.proofs.learning.learn.Goals as goal
 pub raise-requires : goal.raise-requires
 raise-requires g c =
     let h = c.args.held.now in
-    let known = known-falsified c.entries_have_places.ensures.false_literal c.entries_have_places.ensures.place h c.in_ok-learnt.learnt.lits c.requires.consistent c.in_ok-learnt.ensures.asserting.falsified in
-    let by_order = subst (λ (n : ℕ). All (λ (l : Literal). l.var < n) c.in_ok-learnt.learnt.lits) (sym c.requires.ready.known) known in
+    let known = known-falsified c.entries_have_places.ensures.false_literal c.entries_have_places.ensures.place h c.in_ok-learnt.learnt.lits c.requires.under_way.consistent c.in_ok-learnt.ensures.asserting.falsified in
+    let by_order = subst (λ (n : ℕ). All (λ (l : Literal). l.var < n) c.in_ok-learnt.learnt.lits) (sym c.requires.under_way.ready.known) known in
     subst (All (λ (l : Literal). l.var < length c.args.order.now.given_back)) (sym c.as_slice-lits.ensures) by_order
 
 pub go_back-requires-clause-below : goal.go_back-requires-clause-below
@@ -21,19 +21,14 @@ go_back-requires-clause-below g c =
 pub hold_learnt-requires-clause-known : goal.hold_learnt-requires-clause-known
 hold_learnt-requires-clause-known g c =
     let h = c.args.held.now in
-    let known = known-falsified c.entries_have_places.ensures.false_literal c.entries_have_places.ensures.place h c.in_ok-learnt.learnt.lits c.requires.consistent c.in_ok-learnt.ensures.asserting.falsified in
+    let known = known-falsified c.entries_have_places.ensures.false_literal c.entries_have_places.ensures.place h c.in_ok-learnt.learnt.lits c.requires.under_way.consistent c.in_ok-learnt.ensures.asserting.falsified in
     subst (λ (n : ℕ). All (λ (l : Literal). l.var < n) c.in_ok-learnt.learnt.lits) (sym (ap (λ (n : HeldView). n.vars) c.go_back.ensures.back)) known
 
 pub hold_learnt-requires-clause-fits : goal.hold_learnt-requires-clause-fits
 hold_learnt-requires-clause-fits g c =
-    subst (λ (n : HeldView). MayBeHeld n c.in_ok-learnt.learnt.lits) (sym c.go_back.ensures.back) (fits-back c.asserting_clauses_may_be_held.ensures c.args.held.now c.in_ok-learnt.learnt c.requires.consistent c.requires.level c.in_ok-learnt.ensures.asserting)
+    subst (λ (n : HeldView). MayBeHeld n c.in_ok-learnt.learnt.lits) (sym c.go_back.ensures.back) (fits-back c.asserting_clauses_may_be_held.ensures c.args.held.now c.in_ok-learnt.learnt c.requires.under_way.consistent c.requires.level c.in_ok-learnt.ensures.asserting)
 
-pub returns-clause-searching : goal.returns-clause-searching
-returns-clause-searching g c = λ start search.
-    let moved = subst (IsSearching start) (sym c.go_back.ensures.back) (IsSearching-moved start c.args.held.now _ _ search) in
-    c.in_ok-hold_learnt.ensures.searching start moved
-
-pub returns-clause-learnt : goal.returns-clause-learnt
-returns-clause-learnt g c = λ start before search learnt.
-    let moved = subst (IsSearching start) (sym c.go_back.ensures.back) (IsSearching-moved start c.args.held.now _ _ search) in
-    c.in_ok-hold_learnt.ensures.learnt start before moved learnt
+pub returns-clause-goes_on : goal.returns-clause-goes_on
+returns-clause-goes_on g c = λ start before search.
+    let moved = subst (λ (h : HeldView). IsSearching start h before (g.T.Tracer.told c.args.tracer.now)) (sym c.go_back.ensures.back) (IsSearching-moved start c.args.held.now before _ _ _ search) in
+    c.in_ok-hold_learnt.ensures.goes_on start before moved

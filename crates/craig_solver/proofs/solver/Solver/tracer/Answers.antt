@@ -3,4 +3,4 @@ use Rattle.craig_solver.proofs.solver.Solver.tracer.Goals as goal
 
 pub returns-clause-root : goal.returns-clause-root
 returns-clause-root g c =
-    rw (← c.self.view_is) (root-told c.self.inside.dead (g.T.Tracer.told c.self.inside.state.tracer) _ _ _ _ c.self.inside.state.root c.self.invariant)
+    rw (← c.self.view_is) (root-told c.self.inside.dead _ c.self.invariant)

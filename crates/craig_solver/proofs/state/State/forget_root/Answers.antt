@@ -2,8 +2,8 @@ use Rattle.craig_solver.proofs.ForgottenLemmas.{IsState-root_forgotten, root-unf
 use Rattle.craig_solver.proofs.state.State.forget_root.Goals as goal
 
 pub forget_told-requires : goal.forget_told-requires
-forget_told-requires g c = λ id is. root-unforgotten _ _ _ _ _ c.args.self.now.root id c.requires is
+forget_told-requires g c = λ id is. root-unforgotten _ id c.requires is
 
 pub returns-clause-state : goal.returns-clause-state
 returns-clause-state g c =
-    IsState-root_forgotten c.covering_is_kept.ensures.forgotten _ _ _ _ _ _ c.args.self.now.root c.requires c.forget_told.ensures.none c.forget_told.ensures.told
+    IsState-root_forgotten c.covering_is_kept.ensures.forgotten _ _ c.requires c.forget_told.ensures.none c.forget_told.ensures.told

@@ -4,4 +4,4 @@ use Rattle.craig_solver.proofs.state.State.reach.Goals as goal
 
 pub returns-clause-state : goal.returns-clause-state
 returns-clause-state g c =
-    on_ok_weaker c.grow-2.result (λ grown. IsState-grown _ _ c.args.self.now.held c.grow.new.self c.args.self.now.order c.grow-2.new.self _ _ c.args.vars c.requires.state c.in_ok-grow.ensures.grown c.grow.ensures.consistent grown) c.grow-2.ensures.grown
+    on_ok_weaker c.grow-2.result (λ grown. IsState-grown _ c.grow.new.self c.grow-2.new.self c.args.vars c.requires.state c.in_ok-grow.ensures.grown c.grow.ensures.consistent grown) c.grow-2.ensures.grown

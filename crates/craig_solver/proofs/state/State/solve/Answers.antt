@@ -1,32 +1,35 @@
-use Rattle.std.proofs.Common.{ap}
-use Rattle.std.proofs.lemmas.Result.{IfOk-weaker, on_ok_weaker}
-use Rattle.craig_watch.specs.Held.{HeldView}
-use Rattle.craig_solver.proofs.AnswerLemmas.{IsAnswer-searched}
+use Rattle.std.proofs.Common.{ap, subst}
+use Rattle.std.proofs.lemmas.Result.{on_ok_weaker}
+use Rattle.craig_base.specs.Arena.{ArenaView}
+use Rattle.craig_solver.specs.Solver.{AreReordered}
+use Rattle.craig_solver.specs.State.{StateView, clauses_under}
+use Rattle.craig_solver.proofs.AnswerLemmas.{IfOk-both, IsAnswer-searched}
 use Rattle.craig_solver.proofs.RefutedLemmas.{TellsAnswer-searched}
 use Rattle.craig_solver.proofs.RootLemmas.{root_of-answer, root-forgotten}
-use Rattle.craig_solver.proofs.SearchedLemmas.{AreReordered-kept, IsState-searched}
+use Rattle.craig_solver.proofs.SearchedLemmas.{AreReordered-ids, IsState-searched}
 use Rattle.craig_solver.proofs.state.State.solve.Goals as goal
+
+pub search-requires-clause-begins : goal.search-requires-clause-begins
+search-requires-clause-begins g c = c.forget_root.ensures.state.begins
 
 pub returns-clause-state : goal.returns-clause-state
 returns-clause-state g c =
-    on_ok_weaker c.answer_for.result (λ rest. IsState-searched c.models_of_an_arena.ensures.model c.clauses_are_found.ensures.looked_up c.steps_are_found.ensures.found (g.T.Tracer.told c.forget_root.new.self.tracer) _ _ c.forget_root.new.self.held c.search.new.held _ c.forget_root.new.self.order _ _ c.forget_root.new.self.root _ c.args.assumptions.now c.args.limit c.in_ok-verdict.verdict c.forget_root.ensures.state c.requires.no_assumption c.in_ok-verdict.ensures.leaves c.in_ok-verdict.ensures.verdict c.in_ok-verdict.ensures.told c.search.ensures.tells c.in_ok-verdict.ensures.covers c.root_of-self.ensures rest) c.answer_for.ensures.at_root
+    on_ok_weaker c.answer_for.result (λ rest. IsState-searched c.models_of_an_arena.ensures.model c.clauses_are_found.ensures.looked_up c.steps_are_found.ensures.found _ c.search.new.held _ _ _ _ _ c.args.assumptions.now c.args.limit c.in_ok-verdict.verdict c.forget_root.ensures.state c.requires.no_assumption c.in_ok-verdict.ensures.searched c.search.ensures.tells c.search.ensures.order c.root_of-self.ensures rest c.answer_for.ensures.order) c.answer_for.ensures.at_root
 
-pub returns-clause-answer : goal.returns-clause-answer
-returns-clause-answer g c =
-    IfOk-weaker c.answer_for.result _ _ (λ a for. IsAnswer-searched c.models_of_an_arena.ensures.model c.clauses_are_found.ensures.looked_up c.clauses_are_found.ensures.listed c.forget_root.new.self.accepted.items _ c.forget_root.new.self.held c.search.new.held _ c.args.assumptions.now c.args.limit c.in_ok-verdict.verdict a c.forget_root.ensures.accepted (ap (λ (h : HeldView). h.vars) c.forget_root.ensures.held) c.forget_root.ensures.state.consistent.arena c.forget_root.ensures.state.clauses c.in_ok-verdict.ensures.leaves c.in_ok-verdict.ensures.verdict for) c.answer_for.ensures.answer
-
-pub returns-clause-told : goal.returns-clause-told
-returns-clause-told g c =
-    IfOk-weaker c.answer_for.result _ _ (λ a for. TellsAnswer-searched c.forget_root.new.self.accepted.items _ c.forget_root.new.self.held c.search.new.held c.args.assumptions.now c.args.limit c.in_ok-verdict.verdict a (g.T.Tracer.told c.forget_root.new.self.tracer) _ c.forget_root.ensures.accepted c.requires.no_assumption c.search.ensures.tells c.in_ok-verdict.ensures.verdict c.in_ok-verdict.ensures.told c.forget_root.ensures.state.originals for) c.answer_for.ensures.answer
-
-pub returns-clause-held : goal.returns-clause-held
-returns-clause-held g c =
-    on_ok_weaker c.answer_for.result (λ rest. AreReordered-kept c.forget_root.new.self.held c.search.new.held _ _ _ _ _ c.in_ok-verdict.ensures.leaves c.forget_root.ensures.state.kept_ids rest (ap (λ (h : HeldView). h.arena) c.forget_root.ensures.held) c.forget_root.ensures.kept) c.answer_for.ensures.at_root
-
-pub returns-clause-root : goal.returns-clause-root
-returns-clause-root g c =
-    IfOk-weaker c.answer_for.result _ _ (λ a for. root_of-answer c.search.new.held c.in_ok-verdict.verdict a _ c.root_of-self.ensures for) c.answer_for.ensures.answer
-
-pub returns-clause-forgets : goal.returns-clause-forgets
-returns-clause-forgets g c =
-    on_ok_weaker c.answer_for.result (λ rest. root-forgotten c.steps_are_found.ensures.unforgotten c.steps_are_found.ensures.kept (g.T.Tracer.told c.args.self.now.tracer) (g.T.Tracer.told c.forget_root.new.self.tracer) _ _ c.args.self.now.held c.forget_root.new.self.held c.search.new.held _ _ c.args.self.now.root c.args.assumptions.now c.in_ok-verdict.verdict c.requires.state c.forget_root.ensures.forgotten c.forget_root.ensures.held c.search.ensures.tells c.in_ok-verdict.ensures.told) c.answer_for.ensures.at_root
+pub returns-clause-solved : goal.returns-clause-solved
+returns-clause-solved g c =
+    let old = c.args.self.now in
+    let mid = c.forget_root.new.self in
+    let found = c.search.new.held in
+    let same = c.forget_root.ensures.forgets.rest in
+    let state = c.forget_root.ensures.state in
+    let searched = c.in_ok-verdict.ensures.searched in
+    let verdict = c.in_ok-verdict.verdict in
+    let accepted = ap (λ (s : StateView). s.accepted) same in
+    IfOk-both c.answer_for.result (λ a for rest. record {
+      answer = IsAnswer-searched c.models_of_an_arena.ensures.model c.clauses_are_found.ensures.looked_up c.clauses_are_found.ensures.listed mid.accepted.items _ mid.held found _ c.args.assumptions.now c.args.limit verdict a accepted (ap (λ (s : StateView). s.held.vars) same) state.consistent.arena state.clauses searched.leaves searched.verdict for;
+      tells = TellsAnswer-searched mid.accepted.items _ mid.held found c.args.assumptions.now c.args.limit verdict a (g.T.Tracer.told mid.tracer) _ accepted c.requires.no_assumption c.search.ensures.tells searched.verdict searched.told state.originals for;
+      root = root_of-answer found verdict a _ c.root_of-self.ensures for;
+      forgets = root-forgotten c.steps_are_found.ensures.unforgotten c.steps_are_found.ensures.kept _ (g.T.Tracer.told mid.tracer) _ mid.held found c.args.assumptions.now verdict c.requires.state c.forget_root.ensures.forgets.told (ap (λ (s : StateView). s.held) same) c.search.ensures.tells searched.told;
+      held = subst (λ (s : StateView). AreReordered (clauses_under s.held.arena s.held_ids) (clauses_under c.answer_for.new.held.arena mid.held_ids.items)) same (AreReordered-ids mid.held found _ _ mid.held_ids.items searched.leaves state.ids rest);
+    }) c.answer_for.ensures.answer c.answer_for.ensures.at_root

@@ -1,5 +1,5 @@
 -- What a search keeps, through each of its steps.
-use Rattle.std.proofs.Common.{◌≡◌, ◌∙◌, ℕ, Bool, true, false, Option, refl, sym}
+use Rattle.std.proofs.Common.{◌≡◌, ℕ, Option}
 use Rattle.craig_spec.specs.Chain.{Told}
 use Rattle.craig_watch.specs.Trail.{Trail}
 use Rattle.craig_watch.specs.Held.{HeldView, IsConsistent, IsLengthened}
@@ -14,14 +14,6 @@ IsSearching-start looks_up listed h told ok = record {
   journal = IsJournal-start h.arena ok.arena;
   tells = TellsLearnt-start h told;
 }
-
--- what is not dead stays alive in propagation
-not-dead : (dead : Bool) → (dead ≡ true → false ≡ true) → dead ≡ false
-not-dead true never = sym (never refl)
-not-dead false never = refl
-
-pub alive-lengthened : (old new : HeldView) → IsLengthened old new → (old.dead ≡ true → false ≡ true) → new.dead ≡ false
-alive-lengthened old new longer never = longer.dead ∙ not-dead old.dead never
 
 -- after propagation
 pub IsSearching-lengthened : (start old new : HeldView) (before by_now : Option Told) → IsSearching start old before by_now → IsLengthened old new → IsSearching start new before by_now

@@ -8,7 +8,7 @@ use Rattle.craig_search.proofs.CoversLemmas.{covers-reordered}
 use Rattle.craig_search.proofs.JournalLemmas.{journal-bounded}
 use Rattle.craig_search.proofs.MeasureLemmas.{longer-decided, turns-decided, turns-learnt}
 use Rattle.craig_search.proofs.ReadyLemmas.{IsFound-complete, IsReady-decided, IsReady-longer}
-use Rattle.craig_search.proofs.SearchingLemmas.{IsSearching-lengthened, alive-lengthened, IsSearching-moved, IsSearching-start}
+use Rattle.craig_search.proofs.SearchingLemmas.{IsSearching-lengthened, IsSearching-moved, IsSearching-start}
 use Rattle.craig_search.proofs.conflict_driven.run.Goals as goal
 
 pub loop-order-init : goal.loop-order-init
@@ -43,7 +43,7 @@ returns-in-None-next-clause-outcome g c =
         c.next.ensures.others.known ∙ c.loop-order.invariant.ready.known ∙ sym lengthened.vars,
       );
       consistent = c.in_ok-propagate.ensures.consistent;
-      alive = alive-lengthened c.loop-order.held p lengthened c.in_ok-propagate.ensures.refused;
+      alive = c.in_ok-propagate.ensures.alive;
       covers = covers-reordered c.covering_is_kept.ensures.fewer (g.T.Tracer.told c.loop-order.tracer) c.loop-order.held.arena p.arena c.loop-order.invariant.covers lengthened.clauses;
     }
 
@@ -107,7 +107,7 @@ returns-then-level-eq0-clause-outcome g c =
         IsReady-longer c.loop-order.held p c.loop-order.order lengthened.added c.loop-order.invariant.ready lengthened.vars lengthened.trail,
       );
       consistent = c.in_ok-refuted-in-Some.ensures.consistent;
-      alive = ap (λ (h : HeldView). h.dead) c.in_ok-refuted-in-Some.ensures.refuted.numbered ∙ alive-lengthened c.loop-order.held p lengthened c.in_ok-propagate.ensures.refused;
+      alive = ap (λ (h : HeldView). h.dead) c.in_ok-refuted-in-Some.ensures.refuted.numbered ∙ c.in_ok-propagate.ensures.alive;
       covers = c.in_ok-refuted-in-Some.ensures.covers;
     }
 

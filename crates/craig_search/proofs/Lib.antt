@@ -9,3 +9,4 @@ pub mod LearntLemmas
 pub mod SearchingLemmas
 pub mod MeasureLemmas
 pub mod VerdictLemmas
+pub mod LawLemmas

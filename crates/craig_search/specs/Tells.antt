@@ -1,7 +1,7 @@
 -- What a search tells a tracer that tells its meaning.
 use Rattle.std.specs.Prelude.{◌≡◌, ◌⊎◌, ℕ, ◌+◌, ◌-◌, ◌<◌, ◌≤◌, true, false, List, [], ◌∷◌, Option, Some, None, IsSome, Contains, length, slice_get}
 use Rattle.craig_spec.specs.Literal.{Literal, Clause}
-use Rattle.craig_spec.specs.Chain.{ChainStep, Derived, ToldStep, Told, antecedents, IsUnforgotten}
+use Rattle.craig_spec.specs.Chain.{ChainStep, Derived, Original, ToldStep, Told, antecedents, IsUnforgotten}
 use Rattle.craig_spec.specs.Needed.{IsNeeded, IsOriginal}
 use Rattle.craig_base.specs.declared.script_part.Part.{Part}
 use Rattle.craig_watch.specs.Held.{HeldView, held_clause}
@@ -39,6 +39,17 @@ pub record Tells (lent : ℕ → Option Clause) (first : ℕ) (IsUnit : ℕ → 
 -- an id of a unit of a refutation: they stand directly below its root
 abbrev pub IsUnitId : ℕ → List ℕ → ℕ → Type 0
 IsUnitId root places id = (id < root) × (root ≤ id + length places)
+
+-- the step of the unit clause of a failed assumption
+pub record IsUnitStep (assumptions : Assumptions) (places : List ℕ) (s : ToldStep) : Type 0 where
+  -- the part and the literal that was assumed
+  pub assumed : Part × Literal
+  -- it stands at one of the places
+  pub at_place : Contains (at_places assumptions places) assumed
+  -- it was told with its part
+  pub part : s.origin ≡ Original assumed.0.0
+  -- and is the only literal
+  pub literals : s.literals ≡ assumed.1 ∷ []
 
 -- an empty clause that stands on clauses that were told before and on the units of the failed assumptions
 pub record IsRoot (new : HeldView) (assumptions : Assumptions) (root : ℕ) (places : List ℕ) (t u : Told) : Type 0 where

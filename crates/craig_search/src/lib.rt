@@ -9,6 +9,7 @@
 mod conflict_driven;
 mod going_back;
 mod journal;
+pub mod laws;
 mod learning;
 mod places;
 mod refuting;

@@ -1,12 +1,13 @@
 -- What a solver tells a tracer that tells its meaning.
-use Rattle.std.specs.Prelude.{◌≡◌, ◌⊎◌, ℕ, false, List, [], ◌∷◌, Option, Contains}
-use Rattle.craig_spec.specs.Literal.{Literal, Clause}
+use Rattle.std.specs.Prelude.{◌≡◌, ◌⊎◌, ℕ, false, List, [], Option, Contains}
+use Rattle.craig_spec.specs.Literal.{Clause}
 use Rattle.craig_spec.specs.Chain.{ChainStep, Original, Derived, SameLiterals, Told, ToldStep, IsTold, IsUnforgotten}
 use Rattle.craig_spec.specs.Needed.{IsNeeded, IsOriginal}
 use Rattle.craig_base.specs.Clauses.{IsNormal, IsTautology}
 use Rattle.craig_proof.specs.Tracer.{Appends, original_step}
 use Rattle.craig_base.specs.declared.script_part.Part.{Part}
-use Rattle.craig_search.specs.Verdict.{Assumptions, at_places}
+use Rattle.craig_search.specs.Tells.{IsUnitStep}
+use Rattle.craig_search.specs.Verdict.{Assumptions}
 use Rattle.craig_solver.specs.declared.answer.Answer.{Answer}
 use Rattle.craig_solver.specs.declared.answer.Answer.TheVariants.{Model, Failed, Limit}
 
@@ -50,17 +51,6 @@ pub record TellsNext (part : Part) (clause : Clause) (before after : Option Told
   pub tautology : IsTautology clause → after ≡ before
   -- every other one is an original of its part, without repeats
   pub normal : ¬ IsTautology clause → (id : ℕ) × (d : Clause) × SameLiterals clause d × IsNormal d × Appends before after (original_step id part.0 d)
-
--- the step of the unit clause of a failed assumption
-pub record IsUnitStep (assumptions : Assumptions) (places : List ℕ) (s : ToldStep) : Type 0 where
-  -- the part and the literal that was assumed
-  pub assumed : Part × Literal
-  -- it stands at one of the places
-  pub at_place : Contains (at_places assumptions places) assumed
-  -- it was told with its part
-  pub part : s.origin ≡ Original assumed.0.0
-  -- and is the only literal
-  pub literals : s.literals ≡ assumed.1 ∷ []
 
 -- a refutation was told
 pub record IsRefutation (accepted : List (Part × Clause)) (assumptions : Assumptions) (root : ℕ) (places : List ℕ) (t : Told) : Type 0 where

@@ -86,8 +86,8 @@ insert-cases true flags room marked n m is h same within off =
     rw (on, none) refl
 insert-cases false flags room marked n m is h same within off =
     let ne : m ≢ n = eqb-false m n is in
-    let kept : get_or (set room n true) m false ≡ get_or flags m false = get_or-set_other room n m true false ne ∙ same m in
-    rw kept (let counted : count_of m marked ≡ cond (get_or flags m false) 1 0 = h m in omega arith)
+    let lower : get_or (set room n true) m false ≡ get_or flags m false = get_or-set_other room n m true false ne ∙ same m in
+    rw lower (let counted : count_of m marked ≡ cond (get_or flags m false) 1 0 = h m in omega arith)
 
 pub AreMarks-insert : (flags room : List Bool) (marked : List ℕ) (n : ℕ) → AreMarks flags marked → ((k : ℕ) → get_or room k false ≡ get_or flags k false) → n < length room → get_or flags n false ≡ false → AreMarks (set room n true) (marked ++ n ∷ [])
 AreMarks-insert flags room marked n h same within off m = count_of-push m n marked ∙ insert-cases (eqb m n) flags room marked n m refl h same within off

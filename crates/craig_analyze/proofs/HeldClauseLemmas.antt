@@ -7,7 +7,7 @@ use Rattle.craig_spec.specs.Literal.{Clause}
 use Rattle.craig_base.specs.Arena.{ArenaView, FlaggedClause, IsLive, clause_at, literals_at}
 use Rattle.craig_watch.specs.Trail.{Trail, IsFalse, IsAssigned}
 use Rattle.craig_watch.specs.Held.{HeldView, held_clause, IsFalsified}
-use Rattle.craig_analyze.specs.Resolvent.{State, IsUnresolved, Meets, HasBegun}
+use Rattle.craig_analyze.specs.Resolvent.{ResolventView, IsUnresolved, Meets, HasBegun}
 use Rattle.craig_analyze.proofs.PlaceLemmas.{false-assigned}
 
 live-cases : (o : Option FlaggedClause) (c : Clause) → option_map (λ f. f.literals) o ≡ Some c → IsSome o × (option_map_or (λ f. f.literals) o [] ≡ c)
@@ -23,8 +23,8 @@ pub falsified-assigned : (h : HeldView) (id : ℕ) → IsFalsified h id → All 
 falsified-assigned h id (c, held, falsified) =
     subst (λ (d : Clause). All (λ l. IsAssigned h.trail l.var) d) (sym (held-live h.arena id c held).1) (All-weaker (IsFalse h.trail) (λ l. IsAssigned h.trail l.var) (λ l. false-assigned h.trail l) c falsified)
 
-abbrev pub nothing : State
-nothing = record { marked = []; pending = []; kept = [] }
+abbrev pub nothing : ResolventView
+nothing = record { marked = []; pending = []; lower = [] }
 
 no_member : {X : Type 0} (x : X) → ¬ Contains [] x
 no_member x (k, within, is) = let no : k < 0 = within in omega arith
@@ -37,20 +37,20 @@ IsUnresolved-nothing h = record {
   once = λ x. omega arith;
   ends = λ k d w. absurd (omega arith);
   pending_marked = λ k d w. absurd (omega arith);
-  kept_false = λ k d w. absurd (omega arith);
-  kept_inner = λ k d w. absurd (omega arith);
-  kept_apart = λ i j d before w. absurd (omega arith);
-  kept_marked = λ k d w. absurd (omega arith);
+  lower_false = λ k d w. absurd (omega arith);
+  lower_inner = λ k d w. absurd (omega arith);
+  lower_apart = λ i j d before w. absurd (omega arith);
+  lower_marked = λ k d w. absurd (omega arith);
   met = λ l _ marked. absurd (no_member l.var marked);
 }
 
 -- the literals of a false clause came in
-pub HasBegun-met : (h : HeldView) (id : ℕ) (old new : State) → IsFalsified h id → old ≡ nothing → Meets h (literals_at h.arena id) old new → HasBegun h id new
+pub HasBegun-met : (h : HeldView) (id : ℕ) (old new : ResolventView) → IsFalsified h id → old ≡ nothing → Meets h (literals_at h.arena id) old new → HasBegun h id new
 HasBegun-met h id old new (c, held, falsified) empty met =
     let t : Trail = h.trail in
     let literals : literals_at h.arena id ≡ c = (held-live h.arena id c held).1 in
     let whole : take (length t) t ≡ t = take_all (length t) t (omega arith) in
-    let from_nothing : Meets h c nothing new = subst (λ (d : Clause). Meets h d nothing new) literals (subst (λ (s : State). Meets h (literals_at h.arena id) s new) empty met) in
+    let from_nothing : Meets h c nothing new = subst (λ (d : Clause). Meets h d nothing new) literals (subst (λ (s : ResolventView). Meets h (literals_at h.arena id) s new) empty met) in
     let false_here : All (IsFalse (take (length t) t)) c = subst (λ (u : Trail). All (IsFalse u) c) (sym whole) falsified in
     let has = from_nothing (length t) (IsUnresolved-nothing h) (λ k d w. inl (false_here k d w)) in
     record {

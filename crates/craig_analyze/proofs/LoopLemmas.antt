@@ -6,12 +6,12 @@ use Rattle.craig_spec.specs.Literal.{Literal, Clause}
 use Rattle.craig_spec.specs.Chain.{ChainStep, SameLiterals, IsChain}
 use Rattle.craig_watch.specs.Trail.{IsFalse, level_at}
 use Rattle.craig_watch.specs.Held.{HeldView, held_clause, IsConsistent}
-use Rattle.craig_analyze.specs.Resolvent.{State, at_place, negated_at, resolvent_of, bound_of, IsEndLevel, IsUnresolved, IsTaken, IsResolvable, HasPresent, HasResolved, HasFound, HasEnded, IsWalking, IsEnding, AreApart}
+use Rattle.craig_analyze.specs.Resolvent.{ResolventView, at_place, negated_at, resolvent_of, bound_of, IsEndLevel, IsUnresolved, IsGreatestTaken, IsResolvable, HasPresent, HasResolved, HasFound, HasEnded, IsWalking, IsEnding, AreApart}
 use Rattle.craig_analyze.proofs.PlaceLemmas.{same_negated, level_at-place}
 use Rattle.craig_analyze.proofs.LevelLemmas.{level-le, reason-first}
 use Rattle.craig_analyze.proofs.ChainLemmas.{Contains-cases, IsChain-same}
 use Rattle.craig_analyze.proofs.ResolventLemmas.{has-pending, has-cases}
-use Rattle.craig_analyze.proofs.WalkLemmas.{Taken, IsTaken-taken}
+use Rattle.craig_analyze.proofs.WalkLemmas.{Taken, IsGreatestTaken-taken}
 
 -- the bound of a list
 pub bound_of-le : (ns : List ℕ) (b : ℕ) → All (λ n. n < b) ns → bound_of ns ≤ b
@@ -27,7 +27,7 @@ bound_of-above (m ∷ ns) n h =
     elim (Contains-cases m ns n h) [ inl is ↦ (let e : m ≡ n = is in omega arith) | inr rest ↦ (let low : n < bound_of ns = bound_of-above ns n rest in omega arith) ]
 
 -- no place that is taken out is above the greatest
-taken-le : (place p : ℕ) (old new : State) → IsTaken place old new → Contains old.pending p → p ≤ place
+taken-le : (place p : ℕ) (old new : ResolventView) → IsGreatestTaken place old new → Contains old.pending p → p ≤ place
 taken-le place p old new taken has =
     elim (Contains-cases place new.pending p (Contains-permutation old.pending (place ∷ new.pending) p taken.rest has)) [
       | inl is ↦ (let e : place ≡ p = is in omega arith)
@@ -35,15 +35,15 @@ taken-le place p old new taken has =
     ]
 
 -- the greatest place is of the present level where one is
-present-taken : (h : HeldView) (place p : ℕ) (old new : State) → IsConsistent h → 0 < h.level → Taken h place old new → p ≤ place → (at_place h.trail p).level ≡ h.level → (at_place h.trail place).level ≡ h.level
+present-taken : (h : HeldView) (place p : ℕ) (old new : ResolventView) → IsConsistent h → 0 < h.level → Taken h place old new → p ≤ place → (at_place h.trail p).level ≡ h.level → (at_place h.trail place).level ≡ h.level
 present-taken h place p old new ok above taken le is =
     let within : place < length h.trail = taken.within in
     let up : (at_place h.trail p).level ≤ (at_place h.trail place).level = level-le h.trail p place ok.levels le within in
     elim taken.end [ inl z ↦ absurd (let zero_level : (at_place h.trail place).level ≡ 0 = z in omega arith) | inr same ↦ same ]
 
-pub walking-first : (h : HeldView) (b place : ℕ) (before : List ChainStep) (old s : State) → IsConsistent h → 0 < h.level → IsUnresolved h b old → HasPresent h old → IsTaken place old s → IsWalking h place before before old s
+pub walking-first : (h : HeldView) (b place : ℕ) (before : List ChainStep) (old s : ResolventView) → IsConsistent h → 0 < h.level → IsUnresolved h b old → HasPresent h old → IsGreatestTaken place old s → IsWalking h place before before old s
 walking-first h b place before old s ok above u present is_taken =
-    let taken : Taken h place old s = IsTaken-taken h b place old s ok u is_taken in
+    let taken : Taken h place old s = IsGreatestTaken-taken h b place old s ok u is_taken in
     record {
       within = taken.within;
       level = present-taken h place present.0 old s ok above taken (taken-le place present.0 old s is_taken present.1) present.2;
@@ -53,15 +53,15 @@ walking-first h b place before old s ok above u present is_taken =
     }
 
 -- a pending place of a level above 0 is of the present one
-above-present : (h : HeldView) (b p : ℕ) (s : State) → IsUnresolved h b s → Contains s.pending p → 0 < (at_place h.trail p).level → (at_place h.trail p).level ≡ h.level
+above-present : (h : HeldView) (b p : ℕ) (s : ResolventView) → IsUnresolved h b s → Contains s.pending p → 0 < (at_place h.trail p).level → (at_place h.trail p).level ≡ h.level
 above-present h b p s u has above =
     elim (All-contains (λ q. IsEndLevel h (at_place h.trail q).level) s.pending p u.ends has) [ inl z ↦ absurd (let zero_level : (at_place h.trail p).level ≡ 0 = z in omega arith) | inr same ↦ same ]
 
-abbrev pub HasAbove : HeldView → State → Type 0
+abbrev pub HasAbove : HeldView → ResolventView → Type 0
 HasAbove h s = (p : ℕ) × Contains s.pending p × (0 < (at_place h.trail p).level)
 
 -- where another pending place is of the present level, the one that was taken out may be resolved on
-pub walking-resolvable : (h : HeldView) (place : ℕ) (before after : List ChainStep) (old s : State) → IsConsistent h → IsWalking h place before after old s → HasAbove h s → IsResolvable h place s
+pub walking-resolvable : (h : HeldView) (place : ℕ) (before after : List ChainStep) (old s : ResolventView) → IsConsistent h → IsWalking h place before after old s → HasAbove h s → IsResolvable h place s
 walking-resolvable h place before after old s ok w (p, has, above) =
     let same : (at_place h.trail p).level ≡ h.level = above-present h place p s w.unresolved has above in
     let low : p < place = All-contains (λ q. q < place) s.pending p w.unresolved.below has in
@@ -74,7 +74,7 @@ walking-resolvable h place before after old s ok w (p, has, above) =
     }
 
 -- what is pending and of the present level stays pending
-still-present : (h : HeldView) (place p : ℕ) (before after : List ChainStep) (s mid : State) → IsConsistent h → place < length h.trail → IsUnresolved h place s → Contains s.pending p → (at_place h.trail p).level ≡ h.level → HasResolved h place before after s mid → HasPresent h mid
+still-present : (h : HeldView) (place p : ℕ) (before after : List ChainStep) (s mid : ResolventView) → IsConsistent h → place < length h.trail → IsUnresolved h place s → Contains s.pending p → (at_place h.trail p).level ≡ h.level → HasResolved h place before after s mid → HasPresent h mid
 still-present h place p before after s mid ok within u has level resolved =
     let low : p < place = All-contains (λ q. q < place) s.pending p u.below has in
     let inside : p < length h.trail = omega arith in
@@ -84,22 +84,22 @@ still-present h place p before after s mid ok within u has level resolved =
           let q_low : q < place = All-contains (λ k. k < place) mid.pending q resolved.unresolved.below there.1 in
           let same : q ≡ p = same_negated h.trail q p ok.distinct (omega arith) inside there.2 in
           (q, there.1, ap (λ k. (at_place h.trail k).level) same ∙ level)
-      | inr kept ↦
-          let inner = All-contains (λ l. (0 < level_at h.trail l) × (level_at h.trail l < h.level)) mid.kept (negated_at h.trail p) resolved.unresolved.kept_inner kept in
+      | inr lower ↦
+          let inner = All-contains (λ l. (0 < level_at h.trail l) × (level_at h.trail l < h.level)) mid.lower (negated_at h.trail p) resolved.unresolved.lower_inner lower in
           let less : level_at h.trail (negated_at h.trail p) < h.level = inner.1 in
           let is : level_at h.trail (negated_at h.trail p) ≡ (at_place h.trail p).level = level_at-place h.trail p ok.distinct inside in
           absurd (omega arith)
     ]
 
-pub walking-present : (h : HeldView) (place : ℕ) (before steps after : List ChainStep) (old s mid : State) → IsConsistent h → IsWalking h place before steps old s → HasAbove h s → HasResolved h place steps after s mid → HasPresent h mid
+pub walking-present : (h : HeldView) (place : ℕ) (before steps after : List ChainStep) (old s mid : ResolventView) → IsConsistent h → IsWalking h place before steps old s → HasAbove h s → HasResolved h place steps after s mid → HasPresent h mid
 walking-present h place before steps after old s mid ok w (p, has, above) resolved =
     still-present h place p steps after s mid ok w.within w.unresolved has (above-present h place p s w.unresolved has above) resolved
 
-pub walking-next : (h : HeldView) (place next : ℕ) (before steps after : List ChainStep) (old s mid new : State) → IsConsistent h → 0 < h.level → IsWalking h place before steps old s → HasAbove h s → HasResolved h place steps after s mid → IsTaken next mid new → IsWalking h next before after old new × (next < place)
+pub walking-next : (h : HeldView) (place next : ℕ) (before steps after : List ChainStep) (old s mid new : ResolventView) → IsConsistent h → 0 < h.level → IsWalking h place before steps old s → HasAbove h s → HasResolved h place steps after s mid → IsGreatestTaken next mid new → IsWalking h next before after old new × (next < place)
 walking-next h place next before steps after old s mid new ok above w others resolved is_taken =
     let present = walking-present h place before steps after old s mid ok w others resolved in
     let first : IsWalking h next after after mid new = walking-first h place next after mid new ok above resolved.unresolved present is_taken in
-    let taken = IsTaken-taken h place next mid new ok resolved.unresolved is_taken in (
+    let taken = IsGreatestTaken-taken h place next mid new ok resolved.unresolved is_taken in (
       record {
         within = first.within;
         level = first.level;
@@ -110,7 +110,7 @@ walking-next h place next before steps after old s mid new ok above w others res
       All-contains (λ q. q < place) mid.pending next resolved.unresolved.below taken.there,
     )
 
-pub walking-found : (h : HeldView) (place : ℕ) (first : Literal) (before after : List ChainStep) (old s : State) → IsWalking h place before after old s → first ≡ negated_at h.trail place → All (λ p. (at_place h.trail p).level ≡ 0) s.pending → HasFound h first before after old s
+pub walking-found : (h : HeldView) (place : ℕ) (first : Literal) (before after : List ChainStep) (old s : ResolventView) → IsWalking h place before after old s → first ≡ negated_at h.trail place → All (λ p. (at_place h.trail p).level ≡ 0) s.pending → HasFound h first before after old s
 walking-found h place first before after old s w is root = record {
   place = place;
   within = w.within;
@@ -128,12 +128,12 @@ SameLiterals-behind e c d same l = (
   λ h. elim (Contains-append_cases e d l h) [ inl front ↦ Contains-append_left e c l front | inr behind ↦ Contains-append_right e c l ((same l).1 behind) ],
 )
 
-pub ending-first : (h : HeldView) (b : ℕ) (before : List ChainStep) (old : State) → IsUnresolved h b old → All (λ p. (at_place h.trail p).level ≡ 0) old.pending → IsEnding h before before old old
+pub ending-first : (h : HeldView) (b : ℕ) (before : List ChainStep) (old : ResolventView) → IsUnresolved h b old → All (λ p. (at_place h.trail p).level ≡ 0) old.pending → IsEnding h before before old old
 ending-first h b before old u root = record { bound = b; unresolved = u; root = root; chain = λ start extra apart leads. leads }
 
-pub ending-resolvable : (h : HeldView) (place : ℕ) (before after : List ChainStep) (old s mid : State) → IsConsistent h → IsEnding h before after old s → IsTaken place s mid → IsResolvable h place mid
+pub ending-resolvable : (h : HeldView) (place : ℕ) (before after : List ChainStep) (old s mid : ResolventView) → IsConsistent h → IsEnding h before after old s → IsGreatestTaken place s mid → IsResolvable h place mid
 ending-resolvable h place before after old s mid ok e is_taken =
-    let taken = IsTaken-taken h e.bound place s mid ok e.unresolved is_taken in
+    let taken = IsGreatestTaken-taken h e.bound place s mid ok e.unresolved is_taken in
     let level : (at_place h.trail place).level ≡ 0 = All-contains (λ p. (at_place h.trail p).level ≡ 0) s.pending place e.root taken.there in
     record {
       within = taken.within;
@@ -148,16 +148,16 @@ above-apart h place extra ok within level apart =
     let is : level_at h.trail (negated_at h.trail place) ≡ (at_place h.trail place).level = level_at-place h.trail place ok.distinct within in
     All-weaker (λ l. IsFalse h.trail l × (0 < level_at h.trail l)) (λ l. IsFalse h.trail l × (l ≢ negated_at h.trail place)) (λ l both. (both.0, λ e. (let above : 0 < level_at h.trail l = both.1 in let same : level_at h.trail l ≡ level_at h.trail (negated_at h.trail place) = ap (level_at h.trail) e in omega arith))) extra apart
 
-root-below : (h : HeldView) (place : ℕ) (s : State) → IsConsistent h → place < length h.trail → (at_place h.trail place).level ≡ 0 → IsUnresolved h place s → All (λ p. (at_place h.trail p).level ≡ 0) s.pending
+root-below : (h : HeldView) (place : ℕ) (s : ResolventView) → IsConsistent h → place < length h.trail → (at_place h.trail place).level ≡ 0 → IsUnresolved h place s → All (λ p. (at_place h.trail p).level ≡ 0) s.pending
 root-below h place s ok within level u k d w =
     let p : ℕ = get_or s.pending k d in
     let low : p < place = u.below k d w in
     let up : (at_place h.trail p).level ≤ (at_place h.trail place).level = level-le h.trail p place ok.levels (omega arith) within in
     omega arith
 
-pub ending-next : (h : HeldView) (place : ℕ) (before steps after : List ChainStep) (old s mid new : State) → IsConsistent h → IsEnding h before steps old s → IsTaken place s mid → HasResolved h place steps after mid new → IsEnding h before after old new × (bound_of new.pending < bound_of s.pending)
+pub ending-next : (h : HeldView) (place : ℕ) (before steps after : List ChainStep) (old s mid new : ResolventView) → IsConsistent h → IsEnding h before steps old s → IsGreatestTaken place s mid → HasResolved h place steps after mid new → IsEnding h before after old new × (bound_of new.pending < bound_of s.pending)
 ending-next h place before steps after old s mid new ok e is_taken resolved =
-    let taken = IsTaken-taken h e.bound place s mid ok e.unresolved is_taken in
+    let taken = IsGreatestTaken-taken h e.bound place s mid ok e.unresolved is_taken in
     let level : (at_place h.trail place).level ≡ 0 = All-contains (λ p. (at_place h.trail p).level ≡ 0) s.pending place e.root taken.there in
     let smaller : bound_of new.pending ≤ place = bound_of-le new.pending place resolved.unresolved.below in
     let bigger : place < bound_of s.pending = bound_of-above s.pending place taken.there in (
@@ -173,5 +173,5 @@ ending-next h place before steps after old s mid new ok e is_taken resolved =
       omega arith,
     )
 
-pub ending-ended : (h : HeldView) (before after : List ChainStep) (old s : State) → IsEnding h before after old s → s.pending ≡ [] → HasEnded h before after old s
+pub ending-ended : (h : HeldView) (before after : List ChainStep) (old s : ResolventView) → IsEnding h before after old s → s.pending ≡ [] → HasEnded h before after old s
 ending-ended h before after old s e none = record { bound = e.bound; unresolved = e.unresolved; none = none; chain = e.chain }

@@ -10,7 +10,7 @@ use Rattle.craig_spec.specs.Literal.{Literal, Clause}
 use Rattle.craig_base.specs.Counting.{count_of, NoneMoreThan}
 use Rattle.craig_watch.specs.Trail.{Trail, entry_of, IsFalse, level_at, AreDistinct}
 use Rattle.craig_watch.specs.Held.{HeldView, IsConsistent}
-use Rattle.craig_analyze.specs.Resolvent.{State, at_place, negated_at, resolvent_of, IsEndLevel, IsUnresolved, MayBeMet, HasMet, Meets}
+use Rattle.craig_analyze.specs.Resolvent.{ResolventView, at_place, negated_at, resolvent_of, IsEndLevel, IsUnresolved, MayBeMet, HasMet, Meets}
 use Rattle.craig_analyze.proofs.PlaceLemmas.{false-within, false-later, place-false, same_place, level_at-place, place-found}
 use Rattle.craig_analyze.proofs.CountLemmas.{count_of-cons, count_of-permutation, count_of-none}
 use Rattle.craig_analyze.proofs.ChainLemmas.{Contains-cases, Contains-first, Contains-later}
@@ -27,25 +27,25 @@ Contains-from_map f (x ∷ xs) y h =
     elim (Contains-cases (f x) (map f xs) y h) [ inl is ↦ (x, Contains-first x xs, is) | inr rest ↦ (let r = Contains-from_map f xs y rest in (r.0, Contains-later x xs r.0 r.1, r.2)) ]
 
 -- the literals of the resolvent
-pub has-pending : (t : Trail) (s : State) (p : ℕ) → Contains s.pending p → Contains (resolvent_of t s) (negated_at t p)
-has-pending t s p h = Contains-append_left (map (negated_at t) s.pending) s.kept (negated_at t p) (Contains-map (negated_at t) s.pending p h)
+pub has-pending : (t : Trail) (s : ResolventView) (p : ℕ) → Contains s.pending p → Contains (resolvent_of t s) (negated_at t p)
+has-pending t s p h = Contains-append_left (map (negated_at t) s.pending) s.lower (negated_at t p) (Contains-map (negated_at t) s.pending p h)
 
-pub has-kept : (t : Trail) (s : State) (l : Literal) → Contains s.kept l → Contains (resolvent_of t s) l
-has-kept t s l h = Contains-append_right (map (negated_at t) s.pending) s.kept l h
+pub has-lower : (t : Trail) (s : ResolventView) (l : Literal) → Contains s.lower l → Contains (resolvent_of t s) l
+has-lower t s l h = Contains-append_right (map (negated_at t) s.pending) s.lower l h
 
-pub has-cases : (t : Trail) (s : State) (l : Literal) → Contains (resolvent_of t s) l → ((p : ℕ) × Contains s.pending p × (negated_at t p ≡ l)) ⊎ Contains s.kept l
+pub has-cases : (t : Trail) (s : ResolventView) (l : Literal) → Contains (resolvent_of t s) l → ((p : ℕ) × Contains s.pending p × (negated_at t p ≡ l)) ⊎ Contains s.lower l
 has-cases t s l h =
-    elim (Contains-append_cases (map (negated_at t) s.pending) s.kept l h) [ inl pending ↦ inl (Contains-from_map (negated_at t) s.pending l pending) | inr kept ↦ inr kept ]
+    elim (Contains-append_cases (map (negated_at t) s.pending) s.lower l h) [ inl pending ↦ inl (Contains-from_map (negated_at t) s.pending l pending) | inr lower ↦ inr lower ]
 
 -- they are false
-pub resolvent-false : (h : HeldView) (b : ℕ) (s : State) (l : Literal) → IsConsistent h → IsUnresolved h b s → Contains (resolvent_of h.trail s) l → IsFalse h.trail l
+pub resolvent-false : (h : HeldView) (b : ℕ) (s : ResolventView) (l : Literal) → IsConsistent h → IsUnresolved h b s → Contains (resolvent_of h.trail s) l → IsFalse h.trail l
 resolvent-false h b s l ok u has =
     elim (has-cases h.trail s l has) [
       | inl pending ↦
           let low : pending.0 < b = All-contains (λ p. p < b) s.pending pending.0 u.below pending.1 in
           let within = u.within in
           subst (IsFalse h.trail) pending.2 (place-false h.trail pending.0 ok.distinct (omega arith))
-      | inr kept ↦ All-contains (IsFalse h.trail) s.kept l u.kept_false kept
+      | inr lower ↦ All-contains (IsFalse h.trail) s.lower l u.lower_false lower
     ]
 
 -- two false literals of one variable are the same
@@ -58,7 +58,7 @@ same-false b t l m apart l_false m_false e =
     sym at_l.3 ∙ ap (negated_at t) same ∙ at_m.3
 
 -- a literal that was met before
-pub HasMet-marked : (h : HeldView) (b : ℕ) (s : State) (lit : Literal) (marked : List ℕ) → IsUnresolved h b s → Contains s.marked lit.var → marked ≡ s.marked → HasMet h b (lit ∷ []) s (record { marked = marked; pending = s.pending; kept = s.kept })
+pub HasMet-marked : (h : HeldView) (b : ℕ) (s : ResolventView) (lit : Literal) (marked : List ℕ) → IsUnresolved h b s → Contains s.marked lit.var → marked ≡ s.marked → HasMet h b (lit ∷ []) s (record { marked = marked; pending = s.pending; lower = s.lower })
 HasMet-marked h b s lit marked u has is =
     let same : HasMet h b (lit ∷ []) s s = record {
       unresolved = u;
@@ -74,20 +74,20 @@ HasMet-marked h b s lit marked u has is =
       );
       marked = λ v here. here;
     } in
-    subst (λ (m : List ℕ). HasMet h b (lit ∷ []) s (record { marked = m; pending = s.pending; kept = s.kept })) (sym is) same
+    subst (λ (m : List ℕ). HasMet h b (lit ∷ []) s (record { marked = m; pending = s.pending; lower = s.lower })) (sym is) same
 
 -- a literal came in that was not met before
-abbrev Adds : Trail → Literal → State → State → Type 0
+abbrev Adds : Trail → Literal → ResolventView → ResolventView → Type 0
 Adds t lit old new = (l : Literal) → Contains (resolvent_of t new) l ↔ (Contains (resolvent_of t old) l ⊎ (lit ≡ l))
 
-adds-met : (h : HeldView) (b : ℕ) (lit : Literal) (old new : State) → IsConsistent h → IsUnresolved h b old → IsFalse (take b h.trail) lit → new.marked ≡ old.marked ++ lit.var ∷ [] → Adds h.trail lit old new → (l : Literal) → IsFalse (take b h.trail) l → Contains new.marked l.var → Contains (resolvent_of h.trail new) l
+adds-met : (h : HeldView) (b : ℕ) (lit : Literal) (old new : ResolventView) → IsConsistent h → IsUnresolved h b old → IsFalse (take b h.trail) lit → new.marked ≡ old.marked ++ lit.var ∷ [] → Adds h.trail lit old new → (l : Literal) → IsFalse (take b h.trail) l → Contains new.marked l.var → Contains (resolvent_of h.trail new) l
 adds-met h b lit old new ok u lit_false marked adds l l_false has =
     elim (Contains-push_cases old.marked lit.var l.var (subst (λ (m : List ℕ). Contains m l.var) marked has)) [
       | inl before ↦ (adds l).1 (inl (u.met l l_false before))
       | inr same ↦ (adds l).1 (inr (same-false b h.trail lit l ok.distinct lit_false l_false same))
     ]
 
-adds-literals : (t : Trail) (b : ℕ) (lit : Literal) (old new : State) → IsFalse (take b t) lit → Adds t lit old new → (l : Literal) → Contains (resolvent_of t new) l ↔ (Contains (resolvent_of t old) l ⊎ (Contains (lit ∷ []) l × IsFalse (take b t) l))
+adds-literals : (t : Trail) (b : ℕ) (lit : Literal) (old new : ResolventView) → IsFalse (take b t) lit → Adds t lit old new → (l : Literal) → Contains (resolvent_of t new) l ↔ (Contains (resolvent_of t old) l ⊎ (Contains (lit ∷ []) l × IsFalse (take b t) l))
 adds-literals t b lit old new lit_false adds l = (
   λ here. elim ((adds l).0 here) [ inl before ↦ inl before | inr is ↦ inr (subst (Contains (lit ∷ [])) is (Contains-first lit []), subst (IsFalse (take b t)) is lit_false) ],
   λ either. (adds l).1 (elim either [
@@ -102,28 +102,28 @@ marked-more old new v n is has = subst (λ (m : List ℕ). Contains m n) (sym is
 marked-last : (old new : List ℕ) (v : ℕ) → new ≡ old ++ v ∷ [] → Contains new v
 marked-last old new v is = subst (λ (m : List ℕ). Contains m v) (sym is) (Contains-push old v)
 
--- a literal of a level between is kept
-adds-kept : (t : Trail) (lit : Literal) (s : State) (marked : List ℕ) → Adds t lit s (record { marked = marked; pending = s.pending; kept = s.kept ++ lit ∷ [] })
-adds-kept t lit s marked l =
-    let new : State = record { marked = marked; pending = s.pending; kept = s.kept ++ lit ∷ [] } in (
+-- a literal of a level between stays
+adds-lower : (t : Trail) (lit : Literal) (s : ResolventView) (marked : List ℕ) → Adds t lit s (record { marked = marked; pending = s.pending; lower = s.lower ++ lit ∷ [] })
+adds-lower t lit s marked l =
+    let new : ResolventView = record { marked = marked; pending = s.pending; lower = s.lower ++ lit ∷ [] } in (
       λ here. elim (has-cases t new l here) [
         | inl pending ↦ inl (subst (Contains (resolvent_of t s)) pending.2 (has-pending t s pending.0 pending.1))
-        | inr kept ↦ elim (Contains-push_cases s.kept lit l kept) [ inl before ↦ inl (has-kept t s l before) | inr is ↦ inr is ]
+        | inr lower ↦ elim (Contains-push_cases s.lower lit l lower) [ inl before ↦ inl (has-lower t s l before) | inr is ↦ inr is ]
       ],
       λ either. elim either [
         | inl before ↦ elim (has-cases t s l before) [
           | inl pending ↦ subst (Contains (resolvent_of t new)) pending.2 (has-pending t new pending.0 pending.1)
-          | inr kept ↦ has-kept t new l (Contains-append_left s.kept (lit ∷ []) l kept)
+          | inr lower ↦ has-lower t new l (Contains-append_left s.lower (lit ∷ []) l lower)
         ]
-        | inr is ↦ has-kept t new l (subst (Contains (s.kept ++ lit ∷ [])) is (Contains-push s.kept lit))
+        | inr is ↦ has-lower t new l (subst (Contains (s.lower ++ lit ∷ [])) is (Contains-push s.lower lit))
       ],
     )
 
-pub HasMet-kept : (h : HeldView) (b : ℕ) (s : State) (lit : Literal) (marked : List ℕ) → IsConsistent h → IsUnresolved h b s → IsFalse (take b h.trail) lit → ¬ Contains s.marked lit.var → marked ≡ s.marked ++ lit.var ∷ [] → 0 < level_at h.trail lit → level_at h.trail lit < h.level → HasMet h b (lit ∷ []) s (record { marked = marked; pending = s.pending; kept = s.kept ++ lit ∷ [] })
-HasMet-kept h b s lit marked ok u lit_false fresh is above below =
+pub HasMet-lower : (h : HeldView) (b : ℕ) (s : ResolventView) (lit : Literal) (marked : List ℕ) → IsConsistent h → IsUnresolved h b s → IsFalse (take b h.trail) lit → ¬ Contains s.marked lit.var → marked ≡ s.marked ++ lit.var ∷ [] → 0 < level_at h.trail lit → level_at h.trail lit < h.level → HasMet h b (lit ∷ []) s (record { marked = marked; pending = s.pending; lower = s.lower ++ lit ∷ [] })
+HasMet-lower h b s lit marked ok u lit_false fresh is above below =
     let t : Trail = h.trail in
-    let new : State = record { marked = marked; pending = s.pending; kept = s.kept ++ lit ∷ [] } in
-    let adds : Adds t lit s new = adds-kept t lit s marked in
+    let new : ResolventView = record { marked = marked; pending = s.pending; lower = s.lower ++ lit ∷ [] } in
+    let adds : Adds t lit s new = adds-lower t lit s marked in
     record {
       unresolved = record {
         within = u.within;
@@ -131,10 +131,10 @@ HasMet-kept h b s lit marked ok u lit_false fresh is above below =
         once = u.once;
         ends = u.ends;
         pending_marked = All-weaker (λ p. Contains s.marked (at_place t p).literal.var) (λ p. Contains marked (at_place t p).literal.var) (λ p. marked-more s.marked marked lit.var (at_place t p).literal.var is) s.pending u.pending_marked;
-        kept_false = All-push (IsFalse t) s.kept lit u.kept_false (false-later b t lit ok.distinct lit_false);
-        kept_inner = All-push (λ l. (0 < level_at t l) × (level_at t l < h.level)) s.kept lit u.kept_inner (above, below);
-        kept_apart = all_pairs_push (λ l m. l.var ≢ m.var) s.kept lit u.kept_apart (λ k d w e. fresh (subst (Contains s.marked) e (u.kept_marked k d w)));
-        kept_marked = All-push (λ l. Contains marked l.var) s.kept lit (All-weaker (λ l. Contains s.marked l.var) (λ l. Contains marked l.var) (λ l. marked-more s.marked marked lit.var l.var is) s.kept u.kept_marked) (marked-last s.marked marked lit.var is);
+        lower_false = All-push (IsFalse t) s.lower lit u.lower_false (false-later b t lit ok.distinct lit_false);
+        lower_inner = All-push (λ l. (0 < level_at t l) × (level_at t l < h.level)) s.lower lit u.lower_inner (above, below);
+        lower_apart = all_pairs_push (λ l m. l.var ≢ m.var) s.lower lit u.lower_apart (λ k d w e. fresh (subst (Contains s.marked) e (u.lower_marked k d w)));
+        lower_marked = All-push (λ l. Contains marked l.var) s.lower lit (All-weaker (λ l. Contains s.marked l.var) (λ l. Contains marked l.var) (λ l. marked-more s.marked marked lit.var l.var is) s.lower u.lower_marked) (marked-last s.marked marked lit.var is);
         met = adds-met h b lit s new ok u lit_false is adds;
       };
       literals = adds-literals t b lit s new lit_false adds;
@@ -142,20 +142,20 @@ HasMet-kept h b s lit marked ok u lit_false fresh is above below =
     }
 
 -- a literal of level 0 or of the present level is pending
-adds-pending : (t : Trail) (lit : Literal) (s : State) (marked pending : List ℕ) (p : ℕ) → negated_at t p ≡ lit → IsPermutation (p ∷ s.pending) pending → Adds t lit s (record { marked = marked; pending = pending; kept = s.kept })
+adds-pending : (t : Trail) (lit : Literal) (s : ResolventView) (marked pending : List ℕ) (p : ℕ) → negated_at t p ≡ lit → IsPermutation (p ∷ s.pending) pending → Adds t lit s (record { marked = marked; pending = pending; lower = s.lower })
 adds-pending t lit s marked pending p is moved l =
-    let new : State = record { marked = marked; pending = pending; kept = s.kept } in (
+    let new : ResolventView = record { marked = marked; pending = pending; lower = s.lower } in (
       λ here. elim (has-cases t new l here) [
         | inl there ↦ elim (Contains-cases p s.pending there.0 (Contains-permutation pending (p ∷ s.pending) there.0 (IsPermutation-sym (p ∷ s.pending) pending moved) there.1)) [
           | inl e ↦ inr (sym is ∙ ap (negated_at t) e ∙ there.2)
           | inr before ↦ inl (subst (Contains (resolvent_of t s)) there.2 (has-pending t s there.0 before))
         ]
-        | inr kept ↦ inl (has-kept t s l kept)
+        | inr lower ↦ inl (has-lower t s l lower)
       ],
       λ either. elim either [
         | inl before ↦ elim (has-cases t s l before) [
           | inl there ↦ subst (Contains (resolvent_of t new)) there.2 (has-pending t new there.0 (Contains-permutation (p ∷ s.pending) pending there.0 moved (Contains-later p s.pending there.0 there.1)))
-          | inr kept ↦ has-kept t new l kept
+          | inr lower ↦ has-lower t new l lower
         ]
         | inr e ↦ subst (Contains (resolvent_of t new)) (is ∙ e) (has-pending t new p (Contains-permutation (p ∷ s.pending) pending p moved (Contains-first p s.pending)))
       ],
@@ -172,10 +172,10 @@ once-pushed p xs ys once fresh moved x =
     let le : cond (eqb x p) 1 0 + count_of x xs ≤ 1 = once-cases (eqb x p) x p xs refl once (count_of-none p xs fresh) in
     omega arith
 
-pub HasMet-pending : (h : HeldView) (b : ℕ) (s : State) (lit : Literal) (marked pending : List ℕ) (p : ℕ) → IsConsistent h → IsUnresolved h b s → IsFalse (take b h.trail) lit → ¬ Contains s.marked lit.var → marked ≡ s.marked ++ lit.var ∷ [] → p < length h.trail → slice_get h.trail p ≡ entry_of h.trail lit.var → IsEndLevel h (level_at h.trail lit) → IsPermutation (p ∷ s.pending) pending → HasMet h b (lit ∷ []) s (record { marked = marked; pending = pending; kept = s.kept })
+pub HasMet-pending : (h : HeldView) (b : ℕ) (s : ResolventView) (lit : Literal) (marked pending : List ℕ) (p : ℕ) → IsConsistent h → IsUnresolved h b s → IsFalse (take b h.trail) lit → ¬ Contains s.marked lit.var → marked ≡ s.marked ++ lit.var ∷ [] → p < length h.trail → slice_get h.trail p ≡ entry_of h.trail lit.var → IsEndLevel h (level_at h.trail lit) → IsPermutation (p ∷ s.pending) pending → HasMet h b (lit ∷ []) s (record { marked = marked; pending = pending; lower = s.lower })
 HasMet-pending h b s lit marked pending p ok u lit_false fresh is p_within found end moved =
     let t : Trail = h.trail in
-    let new : State = record { marked = marked; pending = pending; kept = s.kept } in
+    let new : ResolventView = record { marked = marked; pending = pending; lower = s.lower } in
     let at = false-within b t lit lit_false in
     let here : p ≡ at.0 = place-found t lit at.0 p ok.distinct at.2 p_within at.3 found in
     let negated : negated_at t p ≡ lit = ap (negated_at t) here ∙ at.3 in
@@ -191,10 +191,10 @@ HasMet-pending h b s lit marked pending p ok u lit_false fresh is p_within found
         once = once-pushed p s.pending pending u.once not_there moved;
         ends = All-permutation (λ q. IsEndLevel h (at_place t q).level) (p ∷ s.pending) pending moved (All-cons (λ q. IsEndLevel h (at_place t q).level) p s.pending (subst (IsEndLevel h) level end) u.ends);
         pending_marked = All-permutation (λ q. Contains marked (at_place t q).literal.var) (p ∷ s.pending) pending moved (All-cons (λ q. Contains marked (at_place t q).literal.var) p s.pending (subst (Contains marked) (sym var) (marked-last s.marked marked lit.var is)) (All-weaker (λ q. Contains s.marked (at_place t q).literal.var) (λ q. Contains marked (at_place t q).literal.var) (λ q. marked-more s.marked marked lit.var (at_place t q).literal.var is) s.pending u.pending_marked));
-        kept_false = u.kept_false;
-        kept_inner = u.kept_inner;
-        kept_apart = u.kept_apart;
-        kept_marked = All-weaker (λ l. Contains s.marked l.var) (λ l. Contains marked l.var) (λ l. marked-more s.marked marked lit.var l.var is) s.kept u.kept_marked;
+        lower_false = u.lower_false;
+        lower_inner = u.lower_inner;
+        lower_apart = u.lower_apart;
+        lower_marked = All-weaker (λ l. Contains s.marked l.var) (λ l. Contains marked l.var) (λ l. marked-more s.marked marked lit.var l.var is) s.lower u.lower_marked;
         met = adds-met h b lit s new ok u lit_false is adds;
       };
       literals = adds-literals t b lit s new lit_false adds;
@@ -202,17 +202,17 @@ HasMet-pending h b s lit marked pending p ok u lit_false fresh is p_within found
     }
 
 -- no literal came in, and one after others
-pub Meets-none : (h : HeldView) (s : State) → Meets h [] s s
+pub Meets-none : (h : HeldView) (s : ResolventView) → Meets h [] s s
 Meets-none h s b u may = record {
   unresolved = u;
   literals = λ l. (λ here. inl here, λ either. elim either [ inl here ↦ here | inr none ↦ absurd (let no : none.0.0 < 0 = none.0.1 in omega arith) ]);
   marked = λ v here. here;
 }
 
-may-still : (h : HeldView) (b : ℕ) (c : Clause) (old new : State) (l : Literal) → HasMet h b c old new → MayBeMet h.trail b old l → MayBeMet h.trail b new l
+may-still : (h : HeldView) (b : ℕ) (c : Clause) (old new : ResolventView) (l : Literal) → HasMet h b c old new → MayBeMet h.trail b old l → MayBeMet h.trail b new l
 may-still h b c old new l met may = elim may [ inl falsified ↦ inl falsified | inr marked ↦ inr (met.marked l.var marked) ]
 
-HasMet-twice : (h : HeldView) (b : ℕ) (c : Clause) (lit : Literal) (old mid new : State) → HasMet h b c old mid → HasMet h b (lit ∷ []) mid new → HasMet h b (c ++ lit ∷ []) old new
+HasMet-twice : (h : HeldView) (b : ℕ) (c : Clause) (lit : Literal) (old mid new : ResolventView) → HasMet h b c old mid → HasMet h b (lit ∷ []) mid new → HasMet h b (c ++ lit ∷ []) old new
 HasMet-twice h b c lit old mid new one two = record {
   unresolved = two.unresolved;
   literals = λ l. (
@@ -228,7 +228,7 @@ HasMet-twice h b c lit old mid new one two = record {
   marked = λ v has. two.marked v (one.marked v has);
 }
 
-pub Meets-push : (h : HeldView) (c : Clause) (lit : Literal) (old mid new : State) → Meets h c old mid → Meets h (lit ∷ []) mid new → Meets h (c ++ lit ∷ []) old new
+pub Meets-push : (h : HeldView) (c : Clause) (lit : Literal) (old mid new : ResolventView) → Meets h c old mid → Meets h (lit ∷ []) mid new → Meets h (c ++ lit ∷ []) old new
 Meets-push h c lit old mid new one two b u may =
     let first : All (MayBeMet h.trail b old) c = λ k d w. subst (MayBeMet h.trail b old) (get_or_append_left c (lit ∷ []) d k w) (may k d (omega (arith, length_push c lit))) in
     let last : MayBeMet h.trail b old lit = All-contains (MayBeMet h.trail b old) (c ++ lit ∷ []) lit may (Contains-push c lit) in
@@ -236,15 +236,15 @@ Meets-push h c lit old mid new one two b u may =
     HasMet-twice h b c lit old mid new met (two b met.unresolved (All-cons (MayBeMet h.trail b mid) lit [] (may-still h b c old mid lit met last) (λ k d w. absurd (omega arith))))
 
 -- of a literal that is not marked the premise says that it is false
-may-false : (h : HeldView) (b : ℕ) (s : State) (lit : Literal) → ¬ Contains s.marked lit.var → All (MayBeMet h.trail b s) (lit ∷ []) → IsFalse (take b h.trail) lit
+may-false : (h : HeldView) (b : ℕ) (s : ResolventView) (lit : Literal) → ¬ Contains s.marked lit.var → All (MayBeMet h.trail b s) (lit ∷ []) → IsFalse (take b h.trail) lit
 may-false h b s lit fresh may =
     elim (All-head (MayBeMet h.trail b s) lit [] may) [ inl falsified ↦ falsified | inr marked ↦ absurd (fresh marked) ]
 
-pub Meets-marked : (h : HeldView) (s : State) (lit : Literal) (marked : List ℕ) → Contains s.marked lit.var × (marked ≡ s.marked) → Meets h (lit ∷ []) s (record { marked = marked; pending = s.pending; kept = s.kept })
+pub Meets-marked : (h : HeldView) (s : ResolventView) (lit : Literal) (marked : List ℕ) → Contains s.marked lit.var × (marked ≡ s.marked) → Meets h (lit ∷ []) s (record { marked = marked; pending = s.pending; lower = s.lower })
 Meets-marked h s lit marked (has, is) b u may = HasMet-marked h b s lit marked u has is
 
-pub Meets-kept : (h : HeldView) (s : State) (lit : Literal) (marked : List ℕ) → IsConsistent h → (¬ Contains s.marked lit.var) × (marked ≡ s.marked ++ lit.var ∷ []) → (0 < level_at h.trail lit) × (level_at h.trail lit < h.level) → Meets h (lit ∷ []) s (record { marked = marked; pending = s.pending; kept = s.kept ++ lit ∷ [] })
-Meets-kept h s lit marked ok (fresh, is) (above, below) b u may = HasMet-kept h b s lit marked ok u (may-false h b s lit fresh may) fresh is above below
+pub Meets-lower : (h : HeldView) (s : ResolventView) (lit : Literal) (marked : List ℕ) → IsConsistent h → (¬ Contains s.marked lit.var) × (marked ≡ s.marked ++ lit.var ∷ []) → (0 < level_at h.trail lit) × (level_at h.trail lit < h.level) → Meets h (lit ∷ []) s (record { marked = marked; pending = s.pending; lower = s.lower ++ lit ∷ [] })
+Meets-lower h s lit marked ok (fresh, is) (above, below) b u may = HasMet-lower h b s lit marked ok u (may-false h b s lit fresh may) fresh is above below
 
-pub Meets-pending : (h : HeldView) (s : State) (lit : Literal) (marked pending : List ℕ) (p : ℕ) → IsConsistent h → (¬ Contains s.marked lit.var) × (marked ≡ s.marked ++ lit.var ∷ []) → p < length h.trail → slice_get h.trail p ≡ entry_of h.trail lit.var → IsEndLevel h (level_at h.trail lit) → IsPermutation (p ∷ s.pending) pending → Meets h (lit ∷ []) s (record { marked = marked; pending = pending; kept = s.kept })
+pub Meets-pending : (h : HeldView) (s : ResolventView) (lit : Literal) (marked pending : List ℕ) (p : ℕ) → IsConsistent h → (¬ Contains s.marked lit.var) × (marked ≡ s.marked ++ lit.var ∷ []) → p < length h.trail → slice_get h.trail p ≡ entry_of h.trail lit.var → IsEndLevel h (level_at h.trail lit) → IsPermutation (p ∷ s.pending) pending → Meets h (lit ∷ []) s (record { marked = marked; pending = pending; lower = s.lower })
 Meets-pending h s lit marked pending p ok (fresh, is) within found end moved b u may = HasMet-pending h b s lit marked pending p ok u (may-false h b s lit fresh may) fresh is within found end moved

@@ -14,16 +14,16 @@ use Rattle.craig_proof.specs.declared.step.Step.{Step}
 use Rattle.craig_proof.specs.Tracer.{chain_of}
 use Rattle.craig_watch.specs.Trail.{Trail, entry_of, IsFalse, IsAssigned, level_at, AreDistinct}
 use Rattle.craig_watch.specs.Held.{HeldView, held_clause, Forces, IsConsistent}
-use Rattle.craig_analyze.specs.Resolvent.{State, any_entry, at_place, negated_at, resolvent_of, IsEndLevel, IsUnresolved, MayBeMet, HasMet, Meets, IsTaken, IsResolvable, HasResolved}
+use Rattle.craig_analyze.specs.Resolvent.{ResolventView, any_entry, at_place, negated_at, resolvent_of, IsEndLevel, IsUnresolved, MayBeMet, HasMet, Meets, IsGreatestTaken, IsResolvable, HasResolved}
 use Rattle.craig_analyze.proofs.PlaceLemmas.{false-within, within-false, false-later, false-assigned, place-assigned, place-false, same_negated, entry_of-place, level_at-place}
 use Rattle.craig_analyze.proofs.LevelLemmas.{reason_of-cases}
 use Rattle.craig_analyze.proofs.CountLemmas.{count_of-cons, count_of-permutation, Contains-counted}
 use Rattle.craig_analyze.proofs.ChainLemmas.{Contains-cases, Contains-first, Contains-later, literal-decides, resolves-with_reason, IsChain-push}
-use Rattle.craig_analyze.proofs.ResolventLemmas.{has-pending, has-kept, has-cases, resolvent-false}
+use Rattle.craig_analyze.proofs.ResolventLemmas.{has-pending, has-lower, has-cases, resolvent-false}
 use Rattle.craig_analyze.proofs.HeldClauseLemmas.{held-live}
 
 -- what is so when the greatest pending place was taken out
-pub record Taken (h : HeldView) (place : ℕ) (old new : State) : Type 0 where
+pub record Taken (h : HeldView) (place : ℕ) (old new : ResolventView) : Type 0 where
   pub there : Contains old.pending place
   pub within : place < length h.trail
   pub end : IsEndLevel h (at_place h.trail place).level
@@ -53,20 +53,20 @@ below-greatest n xs ys once moved greatest k d w =
     let differ : get_or ys k d ≢ n = λ e. once-twice n xs ys once moved (k, w, get_or_default ys k n d w ∙ e) in
     omega arith
 
-same-taken : (t : Trail) (place : ℕ) (old new : State) → IsPermutation old.pending (place ∷ new.pending) → new.kept ≡ old.kept → SameLiterals (resolvent_of t old) (negated_at t place ∷ resolvent_of t new)
-same-taken t place old new moved kept l = (
+same-taken : (t : Trail) (place : ℕ) (old new : ResolventView) → IsPermutation old.pending (place ∷ new.pending) → new.lower ≡ old.lower → SameLiterals (resolvent_of t old) (negated_at t place ∷ resolvent_of t new)
+same-taken t place old new moved lower l = (
   λ here. elim (has-cases t old l here) [
     | inl there ↦ elim (Contains-cases place new.pending there.0 (Contains-permutation old.pending (place ∷ new.pending) there.0 moved there.1)) [
       | inl e ↦ subst (Contains (negated_at t place ∷ resolvent_of t new)) (ap (negated_at t) e ∙ there.2) (Contains-first (negated_at t place) (resolvent_of t new))
       | inr rest ↦ Contains-later (negated_at t place) (resolvent_of t new) l (subst (Contains (resolvent_of t new)) there.2 (has-pending t new there.0 rest))
     ]
-    | inr in_kept ↦ Contains-later (negated_at t place) (resolvent_of t new) l (has-kept t new l (subst (λ (c : Clause). Contains c l) (sym kept) in_kept))
+    | inr in_lower ↦ Contains-later (negated_at t place) (resolvent_of t new) l (has-lower t new l (subst (λ (c : Clause). Contains c l) (sym lower) in_lower))
   ],
   λ here. elim (Contains-cases (negated_at t place) (resolvent_of t new) l here) [
     | inl e ↦ subst (Contains (resolvent_of t old)) e (has-pending t old place (Contains-permutation (place ∷ new.pending) old.pending place (IsPermutation-sym old.pending (place ∷ new.pending) moved) (Contains-first place new.pending)))
     | inr rest ↦ elim (has-cases t new l rest) [
       | inl there ↦ subst (Contains (resolvent_of t old)) there.2 (has-pending t old there.0 (Contains-permutation (place ∷ new.pending) old.pending there.0 (IsPermutation-sym old.pending (place ∷ new.pending) moved) (Contains-later place new.pending there.0 there.1)))
-      | inr in_kept ↦ has-kept t old l (subst (λ (c : Clause). Contains c l) kept in_kept)
+      | inr in_lower ↦ has-lower t old l (subst (λ (c : Clause). Contains c l) lower in_lower)
     ]
   ],
 )
@@ -80,10 +80,10 @@ lower-place t place b l apart low within falsified =
     let inside : k < length t = at.2 in
     (subst (IsFalse (take b t)) at.3 (within-false b t k apart (omega arith) inside), λ e. (let same : place ≡ k = same_negated t place k apart within inside (e ∙ sym at.3) in omega arith))
 
-Taken-same : (h : HeldView) (b place : ℕ) (s : State) (pending : List ℕ) → IsConsistent h → IsUnresolved h b s → IsPermutation s.pending (place ∷ pending) → All (λ p. p ≤ place) pending → Taken h place s (record { marked = s.marked; pending = pending; kept = s.kept })
+Taken-same : (h : HeldView) (b place : ℕ) (s : ResolventView) (pending : List ℕ) → IsConsistent h → IsUnresolved h b s → IsPermutation s.pending (place ∷ pending) → All (λ p. p ≤ place) pending → Taken h place s (record { marked = s.marked; pending = pending; lower = s.lower })
 Taken-same h b place s pending ok u moved greatest =
     let t : Trail = h.trail in
-    let new : State = record { marked = s.marked; pending = pending; kept = s.kept } in
+    let new : ResolventView = record { marked = s.marked; pending = pending; lower = s.lower } in
     let low : place < b = All-head (λ p. p < b) place pending (All-permutation (λ p. p < b) s.pending (place ∷ pending) moved u.below) in
     let all_ends = All-permutation (λ p. IsEndLevel h (at_place t p).level) s.pending (place ∷ pending) moved u.ends in
     let all_marked = All-permutation (λ p. Contains s.marked (at_place t p).literal.var) s.pending (place ∷ pending) moved u.pending_marked in
@@ -100,10 +100,10 @@ Taken-same h b place s pending ok u moved greatest =
         once = once-rest place s.pending pending u.once moved;
         ends = All-tail (λ p. IsEndLevel h (at_place t p).level) place pending all_ends;
         pending_marked = All-tail (λ p. Contains s.marked (at_place t p).literal.var) place pending all_marked;
-        kept_false = u.kept_false;
-        kept_inner = u.kept_inner;
-        kept_apart = u.kept_apart;
-        kept_marked = u.kept_marked;
+        lower_false = u.lower_false;
+        lower_inner = u.lower_inner;
+        lower_apart = u.lower_apart;
+        lower_marked = u.lower_marked;
         met = λ l falsified has.
             let lower = lower-place t place b l ok.distinct low within falsified in
             elim (Contains-cases (negated_at t place) (resolvent_of t new) l ((same l).0 (u.met l lower.0 has))) [ inl e ↦ absurd (lower.1 e) | inr rest ↦ rest ];
@@ -111,21 +111,21 @@ Taken-same h b place s pending ok u moved greatest =
       same = same;
     }
 
-pub IsTaken-taken : (h : HeldView) (b place : ℕ) (old new : State) → IsConsistent h → IsUnresolved h b old → IsTaken place old new → Taken h place old new
-IsTaken-taken h b place old new ok u taken =
-    let same : record { marked = old.marked; pending = new.pending; kept = old.kept } ≡ new = λ i. record { marked = sym taken.marked i; pending = new.pending; kept = sym taken.kept i } in
+pub IsGreatestTaken-taken : (h : HeldView) (b place : ℕ) (old new : ResolventView) → IsConsistent h → IsUnresolved h b old → IsGreatestTaken place old new → Taken h place old new
+IsGreatestTaken-taken h b place old new ok u taken =
+    let same : record { marked = old.marked; pending = new.pending; lower = old.lower } ≡ new = λ i. record { marked = sym taken.marked i; pending = new.pending; lower = sym taken.lower i } in
     subst (Taken h place old) same (Taken-same h b place old new.pending ok u taken.rest taken.greatest)
 
 -- the pivot is not in the rest of the resolvent
-pivot-gone : (h : HeldView) (place : ℕ) (s : State) → IsConsistent h → place < length h.trail → IsEndLevel h (at_place h.trail place).level → IsUnresolved h place s → ¬ Contains (resolvent_of h.trail s) (negated_at h.trail place)
+pivot-gone : (h : HeldView) (place : ℕ) (s : ResolventView) → IsConsistent h → place < length h.trail → IsEndLevel h (at_place h.trail place).level → IsUnresolved h place s → ¬ Contains (resolvent_of h.trail s) (negated_at h.trail place)
 pivot-gone h place s ok within end u has =
     elim (has-cases h.trail s (negated_at h.trail place) has) [
       | inl there ↦
           let low : there.0 < place = All-contains (λ p. p < place) s.pending there.0 u.below there.1 in
           let same : there.0 ≡ place = same_negated h.trail there.0 place ok.distinct (omega arith) within there.2 in
           omega arith
-      | inr kept ↦
-          let inner = All-contains (λ l. (0 < level_at h.trail l) × (level_at h.trail l < h.level)) s.kept (negated_at h.trail place) u.kept_inner kept in
+      | inr lower ↦
+          let inner = All-contains (λ l. (0 < level_at h.trail l) × (level_at h.trail l < h.level)) s.lower (negated_at h.trail place) u.lower_inner lower in
           let above : 0 < level_at h.trail (negated_at h.trail place) = inner.0 in
           let below : level_at h.trail (negated_at h.trail place) < h.level = inner.1 in
           let level : level_at h.trail (negated_at h.trail place) ≡ (at_place h.trail place).level = level_at-place h.trail place ok.distinct within in
@@ -133,7 +133,7 @@ pivot-gone h place s ok within end u has =
     ]
 
 -- the literals of a reason may be met
-pub reason-may_be_met : (h : HeldView) (place : ℕ) (s : State) (reason : Clause) → IsResolvable h place s → Forces (take place h.trail) reason (at_place h.trail place).literal → All (MayBeMet h.trail place s) reason
+pub reason-may_be_met : (h : HeldView) (place : ℕ) (s : ResolventView) (reason : Clause) → IsResolvable h place s → Forces (take place h.trail) reason (at_place h.trail place).literal → All (MayBeMet h.trail place s) reason
 reason-may_be_met h place s reason r forces k d w =
     let l : Literal = get_or reason k d in
     elim (literal-decides l (at_place h.trail place).literal) [
@@ -161,7 +161,7 @@ pub reason-held : (h : HeldView) (place : ℕ) (id : ClauseId) → IsConsistent 
 reason-held h place id ok within is = ok.justified place any_entry within id is
 
 -- the resolvent with the reason
-pub HasResolved-met : (h : HeldView) (place : ℕ) (id : ℕ) (before : List ChainStep) (s new : State) → IsConsistent h → IsResolvable h place s → Reason h place id → Meets h (literals_at h.arena id) s new → HasResolved h place before (before ++ record { pivot = negated_at h.trail place; antecedent = id } ∷ []) s new
+pub HasResolved-met : (h : HeldView) (place : ℕ) (id : ℕ) (before : List ChainStep) (s new : ResolventView) → IsConsistent h → IsResolvable h place s → Reason h place id → Meets h (literals_at h.arena id) s new → HasResolved h place before (before ++ record { pivot = negated_at h.trail place; antecedent = id } ∷ []) s new
 HasResolved-met h place id before s new ok r (reason, held, forces) meets =
     let t : Trail = h.trail in
     let literals : literals_at h.arena id ≡ reason = (held-live h.arena id reason held).1 in

@@ -61,8 +61,8 @@ impl Analysis {
         self.resolvent.begin(held, conflict)?;
         let first = self.resolvent.find_asserting(held, &mut rest)?;
         self.resolvent.resolve_root(held, &mut rest)?;
-        let lits = with_first(self.alloc, first, self.resolvent.kept.as_slice())?;
-        let back = greatest_level(held, self.resolvent.kept.as_slice());
+        let lits = with_first(self.alloc, first, self.resolvent.lower.as_slice())?;
+        let back = greatest_level(held, self.resolvent.lower.as_slice());
         let glue = count_levels(&mut self.levels, held, lits.as_slice())?;
         Ok(Learnt {
             lits,

@@ -3,7 +3,7 @@ ghost use Rattle.std.specs.Prelude.{◌≡◌, ◌≢◌, [], ◌∷◌, true, f
 ghost use Rattle.craig_base.specs.Arena.{IsLive, literals_at};
 ghost use Rattle.craig_watch.specs.Trail.{IsAssigned};
 ghost use Rattle.craig_watch.specs.Held.{IsConsistent, IsFalsified};
-ghost use Rattle.craig_analyze.specs.Resolvent.{HasBegun, IsEndLevel, Meets, state_of};
+ghost use Rattle.craig_analyze.specs.Resolvent.{HasBegun, IsEndLevel, Meets, view_of};
 
 use crate::resolvent::Resolvent;
 use craig_base::{ClauseId, Lit};
@@ -14,12 +14,12 @@ impl Resolvent {
     // Begins with the literals of a held clause that is false.
     pub(crate) fn begin(&mut self, held: &Held, conflict: ClauseId) -> Result<(), AllocError>
         requires { IsFalsified held.now conflict.0 }
-        ensures begun { OnOk result (HasBegun held.now conflict.0 (state_of self.new)) }
+        ensures begun { OnOk result (HasBegun held.now conflict.0 (view_of self.new)) }
         ensures consistent { IsConsistent held.now }
     {
         self.variables.clear();
         self.pending.clear();
-        self.kept.clear();
+        self.lower.clear();
         self.meet(held, conflict)
     }
 
@@ -27,7 +27,7 @@ impl Resolvent {
     pub(crate) fn meet(&mut self, held: &Held, id: ClauseId) -> Result<(), AllocError>
         requires live { IsLive held.now.arena id.0 }
         requires assigned { All (λ l. IsAssigned held.now.trail l.var) (literals_at held.now.arena id.0) }
-        ensures met { OnOk result (Meets held.now (literals_at held.now.arena id.0) (state_of self.old) (state_of self.new)) }
+        ensures met { OnOk result (Meets held.now (literals_at held.now.arena id.0) (view_of self.old) (view_of self.new)) }
         ensures consistent { IsConsistent held.now }
     {
         for lit in held.arena().lits(id) {
@@ -39,7 +39,7 @@ impl Resolvent {
     // Takes up a literal, where its variable is not met yet.
     fn meet_literal(&mut self, held: &Held, lit: Lit) -> Result<(), AllocError>
         requires { IsAssigned held.now.trail lit.var }
-        ensures { OnOk result (Meets held.now (lit ∷ []) (state_of self.old) (state_of self.new)) }
+        ensures { OnOk result (Meets held.now (lit ∷ []) (view_of self.old) (view_of self.new)) }
     {
         let var = lit.var();
         if !self.variables.insert(var.0)? {
@@ -48,7 +48,7 @@ impl Resolvent {
         if is_end_level(held, held.level_of(var)) {
             self.pending.push(held.place_of(var))?;
         } else {
-            self.kept.push(lit)?;
+            self.lower.push(lit)?;
         }
         Ok(())
     }

@@ -16,7 +16,7 @@ pub struct Resolvent {
     // the places of the literals of level 0 and of the present level, which are to be resolved on
     pub pending: BinaryHeap<usize>,
     // the literals of the levels between
-    pub kept: Vec<Lit>,
+    pub lower: Vec<Lit>,
     ghost ordered: { IsHeap nat_cmp (heap_items pending) } by { Prim.hlevel props },
 }
 
@@ -26,7 +26,7 @@ impl Resolvent {
         Resolvent {
             variables: Marks::new(alloc),
             pending: BinaryHeap::new(alloc),
-            kept: Vec::new(alloc),
+            lower: Vec::new(alloc),
         }
     }
 }

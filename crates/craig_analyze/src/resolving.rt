@@ -3,7 +3,7 @@ ghost use Rattle.std.specs.Prelude.{◌≡◌, ◌<◌, ℕ, true, false, All, C
 ghost use Rattle.std.specs.BinaryHeap.{heap_items, heap_len};
 ghost use Rattle.craig_proof.specs.Tracer.{chain_of};
 ghost use Rattle.craig_watch.specs.Held.{IsConsistent};
-ghost use Rattle.craig_analyze.specs.Resolvent.{HasEnded, HasFound, HasPresent, HasResolved, IsResolvable, IsTaken, IsUnresolved, at_place, state_of};
+ghost use Rattle.craig_analyze.specs.Resolvent.{HasEnded, HasFound, HasPresent, HasResolved, IsResolvable, IsGreatestTaken, IsUnresolved, at_place, view_of};
 
 use crate::resolvent::Resolvent;
 use craig_base::Lit;
@@ -20,9 +20,9 @@ impl Resolvent {
     ) -> Result<Lit, AllocError>
         requires consistent { IsConsistent held.now }
         requires level { 0 < held.now.level }
-        requires unresolved { (bound : ℕ) × IsUnresolved held.now bound (state_of self.old) }
-        requires present { HasPresent held.now (state_of self.old) }
-        ensures { IfOk result (λ first. HasFound held.now first (chain_of steps.old) (chain_of steps.new) (state_of self.old) (state_of self.new)) }
+        requires unresolved { (bound : ℕ) × IsUnresolved held.now bound (view_of self.old) }
+        requires present { HasPresent held.now (view_of self.old) }
+        ensures { IfOk result (λ first. HasFound held.now first (chain_of steps.old) (chain_of steps.new) (view_of self.old) (view_of self.new)) }
     {
         let mut place = self.take_greatest();
         while !self.is_at_root(held) {
@@ -35,9 +35,9 @@ impl Resolvent {
     // Resolves all pending literals away, which are of level 0.
     pub(crate) fn resolve_root(&mut self, held: &Held, steps: &mut Steps) -> Result<(), AllocError>
         requires consistent { IsConsistent held.now }
-        requires unresolved { (bound : ℕ) × IsUnresolved held.now bound (state_of self.old) }
+        requires unresolved { (bound : ℕ) × IsUnresolved held.now bound (view_of self.old) }
         requires root { All (λ p. (at_place held.now.trail p).level ≡ 0) (heap_items self.old.pending) }
-        ensures { OnOk result (HasEnded held.now (chain_of steps.old) (chain_of steps.new) (state_of self.old) (state_of self.new)) }
+        ensures { OnOk result (HasEnded held.now (chain_of steps.old) (chain_of steps.new) (view_of self.old) (view_of self.new)) }
     {
         while !self.pending.is_empty() {
             let place = self.take_greatest();
@@ -48,8 +48,8 @@ impl Resolvent {
 
     // Resolves with the reason of the literal at a place that was taken out.
     fn resolve_on(&mut self, held: &Held, steps: &mut Steps, place: usize) -> Result<(), AllocError>
-        requires { IsResolvable held.now place (state_of self.old) }
-        ensures { OnOk result (HasResolved held.now place (chain_of steps.old) (chain_of steps.new) (state_of self.old) (state_of self.new)) }
+        requires { IsResolvable held.now place (view_of self.old) }
+        ensures { OnOk result (HasResolved held.now place (chain_of steps.old) (chain_of steps.new) (view_of self.old) (view_of self.new)) }
     {
         let lit = held.trail()[place];
         let Some(antecedent) = held.reason(lit.var()) else {
@@ -63,7 +63,7 @@ impl Resolvent {
     // Takes the greatest pending place out.
     fn take_greatest(&mut self) -> usize
         requires { 0 < heap_len self.old.pending }
-        ensures { IsTaken result (state_of self.old) (state_of self.new) }
+        ensures { IsGreatestTaken result (view_of self.old) (view_of self.new) }
     {
         match self.pending.pop() {
             Some(place) => place,

@@ -3,8 +3,8 @@ use Rattle.craig_spec.specs.Literal.{Literal, Clause}
 use Rattle.craig_proof.specs.Tracer.{chain_of}
 use Rattle.craig_watch.specs.Trail.{IsAssigned, level_at}
 use Rattle.craig_analyze.specs.Learnt.{IsGreatestOf, IsNumberOfDifferent}
-use Rattle.craig_analyze.specs.Resolvent.{state_of}
-use Rattle.craig_analyze.proofs.LearntLemmas.{same_found, begun-present, learnt-derived, learnt-asserting, learnt-assigned, kept-assigned, kept-lower, learnt-false}
+use Rattle.craig_analyze.specs.Resolvent.{view_of}
+use Rattle.craig_analyze.proofs.LearntLemmas.{same_found, begun-present, learnt-derived, learnt-asserting, learnt-assigned, lower-assigned, lower-levels, learnt-false}
 use Rattle.craig_analyze.proofs.analysis.Analysis.learn_with.Goals as goal
 
 pub find_asserting-requires : goal.find_asserting-requires
@@ -18,7 +18,7 @@ find_asserting-requires c =
       consistent = ok;
       level = c.requires.level;
       unresolved = (length h.trail, begun.unresolved);
-      present = begun-present h c.args.conflict.0 (state_of c.begin.new.self) two.0 ok begun (subst (λ (d : Clause). Contains d two.0) same two.2) two.5;
+      present = begun-present h c.args.conflict.0 (view_of c.begin.new.self) two.0 ok begun (subst (λ (d : Clause). Contains d two.0) same two.2) two.5;
     }
 
 pub resolve_root-requires : goal.resolve_root-requires
@@ -34,29 +34,29 @@ pub greatest_level-back-requires : goal.greatest_level-back-requires
 greatest_level-back-requires c =
     let h = c.args.held.now in
     let ended = c.in_ok-resolve_root.ensures in
-    subst (All (λ (l : Literal). IsAssigned h.trail l.var)) (sym c.as_slice-2.ensures.value) (kept-assigned h ended.bound (state_of c.resolve_root.new.self) ended.unresolved)
+    subst (All (λ (l : Literal). IsAssigned h.trail l.var)) (sym c.as_slice-2.ensures.value) (lower-assigned h ended.bound (view_of c.resolve_root.new.self) ended.unresolved)
 
 pub count_levels-requires : goal.count_levels-requires
 count_levels-requires c =
     let h = c.args.held.now in
-    let lits = c.as_slice-3.ensures ∙ c.in_ok-lits.ensures ∙ ap (λ (kept : Clause). c.in_ok-first.first ∷ kept) c.as_slice.ensures.value in
+    let lits = c.as_slice-3.ensures ∙ c.in_ok-lits.ensures ∙ ap (λ (lower : Clause). c.in_ok-first.first ∷ lower) c.as_slice.ensures.value in
     record {
-      assigned = subst (All (λ (l : Literal). IsAssigned h.trail l.var)) (sym lits) (learnt-assigned h c.args.conflict.0 c.in_ok-first.first _ _ _ (state_of c.begin.new.self) (state_of c.find_asserting.new.self) (state_of c.resolve_root.new.self) c.begin.ensures.consistent c.requires.level c.in_ok-begin.ensures.begun c.in_ok-first.ensures c.in_ok-resolve_root.ensures);
+      assigned = subst (All (λ (l : Literal). IsAssigned h.trail l.var)) (sym lits) (learnt-assigned h c.args.conflict.0 c.in_ok-first.first _ _ _ (view_of c.begin.new.self) (view_of c.find_asserting.new.self) (view_of c.resolve_root.new.self) c.begin.ensures.consistent c.requires.level c.in_ok-begin.ensures.begun c.in_ok-first.ensures c.in_ok-resolve_root.ensures);
       consistent = c.begin.ensures.consistent;
     }
 
 pub returns-clause-derived : goal.returns-clause-derived
 returns-clause-derived c =
-    let lits = c.in_ok-lits.ensures ∙ ap (λ (kept : Clause). c.in_ok-first.first ∷ kept) c.as_slice.ensures.value in
-    learnt-derived c.args.held.now c.args.conflict.0 c.in_ok-first.first _ _ _ (state_of c.begin.new.self) (state_of c.find_asserting.new.self) (state_of c.resolve_root.new.self) c.begin.ensures.consistent c.requires.level c.in_ok-begin.ensures.begun c.in_ok-first.ensures c.in_ok-resolve_root.ensures _ lits refl refl (ap chain_of c.new-rest.ensures)
+    let lits = c.in_ok-lits.ensures ∙ ap (λ (lower : Clause). c.in_ok-first.first ∷ lower) c.as_slice.ensures.value in
+    learnt-derived c.args.held.now c.args.conflict.0 c.in_ok-first.first _ _ _ (view_of c.begin.new.self) (view_of c.find_asserting.new.self) (view_of c.resolve_root.new.self) c.begin.ensures.consistent c.requires.level c.in_ok-begin.ensures.begun c.in_ok-first.ensures c.in_ok-resolve_root.ensures _ lits refl refl (ap chain_of c.new-rest.ensures)
 
 pub returns-clause-asserting : goal.returns-clause-asserting
 returns-clause-asserting c =
     let h = c.args.held.now in
     let ok = c.begin.ensures.consistent in
-    let lits = c.in_ok-lits.ensures ∙ ap (λ (kept : Clause). c.in_ok-first.first ∷ kept) c.as_slice.ensures.value in
-    let back = subst (λ (kept : Clause). IsGreatestOf (map (level_at h.trail) kept) c.greatest_level-back.result) c.as_slice-2.ensures.value c.greatest_level-back.ensures in
+    let lits = c.in_ok-lits.ensures ∙ ap (λ (lower : Clause). c.in_ok-first.first ∷ lower) c.as_slice.ensures.value in
+    let back = subst (λ (lower : Clause). IsGreatestOf (map (level_at h.trail) lower) c.greatest_level-back.result) c.as_slice-2.ensures.value c.greatest_level-back.ensures in
     let glue = subst (λ (d : Clause). IsNumberOfDifferent (map (level_at h.trail) d) c.in_ok-glue.glue) c.as_slice-3.ensures c.in_ok-glue.ensures in
-    let falsified = learnt-false h c.args.conflict.0 c.in_ok-first.first _ _ _ (state_of c.begin.new.self) (state_of c.find_asserting.new.self) (state_of c.resolve_root.new.self) ok c.requires.level c.in_ok-begin.ensures.begun c.in_ok-first.ensures c.in_ok-resolve_root.ensures in
-    let lower = kept-lower h c.args.conflict.0 c.in_ok-first.first _ _ _ (state_of c.begin.new.self) (state_of c.find_asserting.new.self) (state_of c.resolve_root.new.self) ok c.requires.level c.in_ok-begin.ensures.begun c.in_ok-first.ensures c.in_ok-resolve_root.ensures in
-    learnt-asserting h c.args.conflict.0 c.in_ok-first.first _ _ _ (state_of c.begin.new.self) (state_of c.find_asserting.new.self) (state_of c.resolve_root.new.self) ok c.requires.level c.in_ok-begin.ensures.begun c.in_ok-first.ensures c.in_ok-resolve_root.ensures _ lits back glue (c.conflicts_above_the_root.ensures.new h c.in_ok-first.first _ ok c.requires.level falsified lower)
+    let falsified = learnt-false h c.args.conflict.0 c.in_ok-first.first _ _ _ (view_of c.begin.new.self) (view_of c.find_asserting.new.self) (view_of c.resolve_root.new.self) ok c.requires.level c.in_ok-begin.ensures.begun c.in_ok-first.ensures c.in_ok-resolve_root.ensures in
+    let lower = lower-levels h c.args.conflict.0 c.in_ok-first.first _ _ _ (view_of c.begin.new.self) (view_of c.find_asserting.new.self) (view_of c.resolve_root.new.self) ok c.requires.level c.in_ok-begin.ensures.begun c.in_ok-first.ensures c.in_ok-resolve_root.ensures in
+    learnt-asserting h c.args.conflict.0 c.in_ok-first.first _ _ _ (view_of c.begin.new.self) (view_of c.find_asserting.new.self) (view_of c.resolve_root.new.self) ok c.requires.level c.in_ok-begin.ensures.begun c.in_ok-first.ensures c.in_ok-resolve_root.ensures _ lits back glue (c.conflicts_above_the_root.ensures.new h c.in_ok-first.first _ ok c.requires.level falsified lower)

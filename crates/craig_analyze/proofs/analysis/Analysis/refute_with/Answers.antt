@@ -1,6 +1,6 @@
 use Rattle.std.proofs.Common.{refl, length, ap}
 use Rattle.craig_proof.specs.Tracer.{chain_of}
-use Rattle.craig_analyze.specs.Resolvent.{state_of}
+use Rattle.craig_analyze.specs.Resolvent.{view_of}
 use Rattle.craig_analyze.proofs.LearntLemmas.{begun-root, refuted-derived}
 use Rattle.craig_analyze.proofs.analysis.Analysis.refute_with.Goals as goal
 
@@ -11,9 +11,9 @@ resolve_root-requires c =
     record {
       consistent = c.begin.ensures.consistent;
       unresolved = (length h.trail, begun.unresolved);
-      root = begun-root h c.args.conflict.0 (state_of c.begin.new.self) c.requires.level begun;
+      root = begun-root h c.args.conflict.0 (view_of c.begin.new.self) c.requires.level begun;
     }
 
 pub returns-clause-derived : goal.returns-clause-derived
 returns-clause-derived c =
-    refuted-derived c.args.held.now c.args.conflict.0 _ (chain_of c.resolve_root.new.steps) (state_of c.begin.new.self) (state_of c.resolve_root.new.self) _ c.requires.level c.in_ok-begin.ensures.begun c.in_ok-resolve_root.ensures c.new.ensures refl refl (ap chain_of c.new-rest.ensures)
+    refuted-derived c.args.held.now c.args.conflict.0 _ (chain_of c.resolve_root.new.steps) (view_of c.begin.new.self) (view_of c.resolve_root.new.self) _ c.requires.level c.in_ok-begin.ensures.begun c.in_ok-resolve_root.ensures c.new.ensures refl refl (ap chain_of c.new-rest.ensures)

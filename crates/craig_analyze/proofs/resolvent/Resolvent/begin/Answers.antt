@@ -1,6 +1,6 @@
 use Rattle.std.proofs.Common.{◌≡◌}
 use Rattle.std.proofs.lemmas.Result.{on_ok_weaker}
-use Rattle.craig_analyze.specs.Resolvent.{state_of}
+use Rattle.craig_analyze.specs.Resolvent.{view_of}
 use Rattle.craig_analyze.proofs.HeldClauseLemmas.{held-live, falsified-assigned, nothing, HasBegun-met}
 use Rattle.craig_analyze.proofs.resolvent.Resolvent.begin.Goals as goal
 
@@ -12,5 +12,5 @@ meet-requires c = record {
 
 pub returns-clause-begun : goal.returns-clause-begun
 returns-clause-begun c =
-    let empty : record { marked = c.clear.new.self; pending = _; kept = c.clear-3.new.self.items } ≡ nothing = λ i. record { marked = c.clear.ensures i; pending = c.clear-2.ensures.items i; kept = c.clear-3.ensures.items i } in
-    on_ok_weaker c.meet.result (HasBegun-met c.args.held.now c.args.conflict.0 _ (state_of c.meet.new.self) c.requires empty) c.meet.ensures.met
+    let empty : record { marked = c.clear.new.self; pending = _; lower = c.clear-3.new.self.items } ≡ nothing = λ i. record { marked = c.clear.ensures i; pending = c.clear-2.ensures.items i; lower = c.clear-3.ensures.items i } in
+    on_ok_weaker c.meet.result (HasBegun-met c.args.held.now c.args.conflict.0 _ (view_of c.meet.new.self) c.requires empty) c.meet.ensures.met

@@ -1,16 +1,16 @@
 use Rattle.craig_proof.specs.Tracer.{chain_of}
-use Rattle.craig_analyze.specs.Resolvent.{state_of}
+use Rattle.craig_analyze.specs.Resolvent.{view_of}
 use Rattle.craig_analyze.proofs.LoopLemmas.{ending-resolvable, ending-next}
 use Rattle.craig_analyze.proofs.resolvent.Resolvent.resolve_root.Goals as goal
 
 pub resolve_on-requires : goal.resolve_on-requires
 resolve_on-requires c =
-    ending-resolvable c.args.held.now c.take_greatest-place.result (chain_of c.args.steps.now) (chain_of c.loop-self.steps) (state_of c.args.self.now) (state_of c.loop-self.self) (state_of c.take_greatest-place.new.self) c.requires.consistent c.loop-self.invariant c.take_greatest-place.ensures
+    ending-resolvable c.args.held.now c.take_greatest-place.result (chain_of c.args.steps.now) (chain_of c.loop-self.steps) (view_of c.args.self.now) (view_of c.loop-self.self) (view_of c.take_greatest-place.new.self) c.requires.consistent c.loop-self.invariant c.take_greatest-place.ensures
 
 pub loop-self-smaller : goal.loop-self-smaller
 loop-self-smaller c =
-    (ending-next c.args.held.now c.take_greatest-place.result (chain_of c.args.steps.now) (chain_of c.loop-self.steps) (chain_of c.resolve_on.new.steps) (state_of c.args.self.now) (state_of c.loop-self.self) (state_of c.take_greatest-place.new.self) (state_of c.resolve_on.new.self) c.requires.consistent c.loop-self.invariant c.take_greatest-place.ensures c.in_ok-resolve_on.ensures).1
+    (ending-next c.args.held.now c.take_greatest-place.result (chain_of c.args.steps.now) (chain_of c.loop-self.steps) (chain_of c.resolve_on.new.steps) (view_of c.args.self.now) (view_of c.loop-self.self) (view_of c.take_greatest-place.new.self) (view_of c.resolve_on.new.self) c.requires.consistent c.loop-self.invariant c.take_greatest-place.ensures c.in_ok-resolve_on.ensures).1
 
 pub loop-self-preserved : goal.loop-self-preserved
 loop-self-preserved c =
-    (ending-next c.args.held.now c.take_greatest-place.result (chain_of c.args.steps.now) (chain_of c.loop-self.steps) (chain_of c.resolve_on.new.steps) (state_of c.args.self.now) (state_of c.loop-self.self) (state_of c.take_greatest-place.new.self) (state_of c.resolve_on.new.self) c.requires.consistent c.loop-self.invariant c.take_greatest-place.ensures c.in_ok-resolve_on.ensures).0
+    (ending-next c.args.held.now c.take_greatest-place.result (chain_of c.args.steps.now) (chain_of c.loop-self.steps) (chain_of c.resolve_on.new.steps) (view_of c.args.self.now) (view_of c.loop-self.self) (view_of c.take_greatest-place.new.self) (view_of c.resolve_on.new.self) c.requires.consistent c.loop-self.invariant c.take_greatest-place.ensures c.in_ok-resolve_on.ensures).0

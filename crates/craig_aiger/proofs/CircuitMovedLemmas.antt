@@ -7,60 +7,11 @@ use Rattle.std.proofs.lemmas.Bool.Decides.{nat_tests}
 use Rattle.std.proofs.lemmas.List.{length-map, length-take-le, take-append-drop}
 use Rattle.std.proofs.lemmas.Option.{slice_get_within, slice_get-get_or, get_or_from_slice_get}
 use Rattle.craig_spec.specs.Circuit.{Gate, each_variable, gate_cone, gate_value, literal_value_in}
-use Rattle.craig_spec.specs.AigerReading.{by_depth, gate_depth, is_depth, moved, moved_gate, moved_gates, place_in}
+use Rattle.craig_spec.specs.AigerReading.{moved, moved_gate, moved_gates, place_in}
 use Rattle.craig_aiger.proofs.CircuitLemmas.{get_or-first, get_or-before, get_or-gate}
-use Rattle.craig_aiger.proofs.CircuitDepthLemmas.{InOrder, Deep, deep, depth_in, gate_depth-is}
-use Rattle.craig_aiger.proofs.CircuitOrderLemmas.{at_place, first_place, ordered_before, ordered_below, ordered_within}
-
--- a variable at its new place
-abbrev moved_variable : ℕ → List ℕ → ℕ → ℕ
-moved_variable first order v = if nat_lt v first then v else first + place_in order (v - first)
-
-half_by : (first : ℕ) (order : List ℕ) (l : ℕ) (t : Bool) → nat_lt (l / 2) first ≡ t → moved first order l / 2 ≡ moved_variable first order (l / 2)
-half_by first order l true e = rw e refl
-half_by first order l false e = rw e (omega arith)
-
-half : (first : ℕ) (order : List ℕ) (l : ℕ) → moved first order l / 2 ≡ moved_variable first order (l / 2)
-half first order l = half_by first order l (nat_lt (l / 2) first) refl
-
-sign_by : (first : ℕ) (order : List ℕ) (l : ℕ) (t : Bool) → nat_lt (l / 2) first ≡ t → moved first order l % 2 ≡ l % 2
-sign_by first order l true e = rw e refl
-sign_by first order l false e = rw e (omega arith)
-
-sign : (first : ℕ) (order : List ℕ) (l : ℕ) → moved first order l % 2 ≡ l % 2
-sign first order l = sign_by first order l (nat_lt (l / 2) first) refl
-
--- an order of gates in which each stands after its operands
-pub record IsOrder (first : ℕ) (gates : List Gate) (order : List ℕ) : Type 0 where
-  pub within : (j : ℕ) → j < length gates → place_in order j < length order
-  pub below : (p : ℕ) → p < length order → get_or order p 0 < length gates
-  pub left : (j k : ℕ) (g : Gate) → slice_get gates j ≡ Some g → g.left / 2 ≡ first + k → place_in order k < place_in order j
-  pub right : (j k : ℕ) (g : Gate) → slice_get gates j ≡ Some g → g.right / 2 ≡ first + k → place_in order k < place_in order j
-
--- where a variable is moved to, if it is moved before a place
-moved_before : (first : ℕ) (order : List ℕ) (v p : ℕ) (t : Bool) → nat_lt v first ≡ t → ((k : ℕ) → v ≡ first + k → place_in order k < p) → moved_variable first order v < first + p
-moved_before first order v p true e h = rw e (let b : v < first = grind (arith, nat_tests, e) in omega (arith, b))
-moved_before first order v p false e h = rw e (let b : first ≤ v = grind (arith, nat_tests, e) in omega (arith, h (v - first) (omega (arith, b))))
-
-same_gate : (g h : Gate) → Some g ≡ Some h → g ≡ h
-same_gate g h e = cc
-
-module _ (first : ℕ) (gates : List Gate) (order : List ℕ) (h : IsOrder first gates order) where
-  -- the operands of a gate in its new place
-  operands_moved : (j : ℕ) (g : Gate) → slice_get gates j ≡ Some g → (moved_variable first order (g.left / 2) < first + place_in order j) × (moved_variable first order (g.right / 2) < first + place_in order j)
-  operands_moved j g e = (
-    moved_before first order (g.left / 2) (place_in order j) (nat_lt (g.left / 2) first) refl (λ k is. h.left j k g e is),
-    moved_before first order (g.right / 2) (place_in order j) (nat_lt (g.right / 2) first) refl (λ k is. h.right j k g e is),
-  )
-
-  -- the gate at a place of the new order
-  moved_at : (j p : ℕ) (g : Gate) → p < length order → get_or order p 0 ≡ j → slice_get gates j ≡ Some g → slice_get (moved_gates first gates order) p ≡ Some (moved_gate first order g)
-  moved_at j p g within is e =
-      let inside : p < length (moved_gates first gates order) = omega (arith, within, length-map order (λ i. moved_gate first order (get_or gates i (record { left = 0; right = 0 })))) in
-      let read : get_or gates j (record { left = 0; right = 0 }) ≡ g = get_or_from_slice_get gates j g (record { left = 0; right = 0 }) e in
-      slice_get-get_or (moved_gates first gates order) p (moved_gate first order (get_or gates 0 (record { left = 0; right = 0 }))) inside
-      ∙ ap Some (get_or-map (λ i. moved_gate first order (get_or gates i (record { left = 0; right = 0 }))) order p 0)
-      ∙ ap (λ i. Some (moved_gate first order (get_or gates i (record { left = 0; right = 0 })))) is ∙ ap (λ g. Some (moved_gate first order g)) read
+use Rattle.craig_spec.proofs.AigerDepthLemmas.{InOrder}
+use Rattle.craig_spec.proofs.AigerOrderLemmas.{at_place}
+use Rattle.craig_spec.proofs.AigerMovedLemmas.{IsOrder, half, moved_at, moved_variable, operands_moved, sign}
 
 -- what each variable has
 module _ {T : Type 0} (f : List T → Gate → T) (firsts : List T) (d : T) where
@@ -138,57 +89,3 @@ module _ (first : ℕ) (gates : List Gate) (order : List ℕ) (in_order : InOrde
   -- the cone of a literal
   pub cone_moved : (firsts : List (List ℕ)) (l : ℕ) → length firsts ≡ first → l / 2 < first + length gates → get_or (each_variable gate_cone firsts (moved_gates first gates order)) (moved first order l / 2) [] ≡ get_or (each_variable gate_cone firsts gates) (l / 2) []
   cone_moved firsts l firsts_are within = kept_moved gate_cone firsts [] follows_cone first gates order firsts_are in_order h l within
-
-depth_test : (first : ℕ) (gates : List Gate) → InOrder first gates → (n j : ℕ) → j < length gates → is_depth n (gate_depth first gates j) ≡ eqb (depth_in first gates (length gates) (first + j)) n
-depth_test first gates in_order n j within =
-    let g : Gate = get_or gates j (record { left = 0; right = 0 }) in
-    let there : slice_get gates j ≡ Some g = slice_get-get_or gates j (record { left = 0; right = 0 }) within in
-    ap (is_depth n) (gate_depth-is first gates j g in_order there within)
-
-module _ (first : ℕ) (gates : List Gate) (in_order : InOrder first gates) where
-  deep_here : (j : ℕ) (within : j < length gates) → Deep first gates (length gates) j (get_or gates j (record { left = 0; right = 0 }))
-  deep_here j within = deep first gates j (get_or gates j (record { left = 0; right = 0 })) in_order (slice_get-get_or gates j (record { left = 0; right = 0 }) within) within
-
-  stands_before : (j k v : ℕ) → j < length gates → v < first + j → v ≡ first + k → depth_in first gates (length gates) v < depth_in first gates (length gates) (first + j) → place_in (by_depth first gates) k < place_in (by_depth first gates) j
-  stands_before j k v within below is less =
-      let k_within : k < length gates = omega (arith, within, below, is) in
-      let d : Deep first gates (length gates) k (get_or gates k (record { left = 0; right = 0 })) = deep_here k k_within in
-      ordered_before (length gates) (λ n i. is_depth n (gate_depth first gates i)) (λ i. depth_in first gates (length gates) (first + i)) (depth_test first gates in_order) 1 (length gates) k j k_within within d.some (omega (arith, d.bound)) (rw is at less)
-
-  -- by rising depth, each gate stands after its operands
-  pub IsOrder-by_depth : IsOrder first gates (by_depth first gates)
-  IsOrder-by_depth = record {
-    within = λ j within.
-        let d : Deep first gates (length gates) j (get_or gates j (record { left = 0; right = 0 })) = deep_here j within in
-        ordered_within (length gates) (λ n i. is_depth n (gate_depth first gates i)) (λ i. depth_in first gates (length gates) (first + i)) (depth_test first gates in_order) 1 (length gates) j within d.some (omega (arith, d.bound));
-    below = ordered_below (length gates) (λ n i. is_depth n (gate_depth first gates i)) (λ i. depth_in first gates (length gates) (first + i)) (depth_test first gates in_order) 1 (length gates);
-    left = λ j k g e is. let within : j < length gates = slice_get_within gates j g e in stands_before j k (g.left / 2) within (in_order j g e).0 is (deep first gates j g in_order e within).left;
-    right = λ j k g e is. let within : j < length gates = slice_get_within gates j g e in stands_before j k (g.right / 2) within (in_order j g e).1 is (deep first gates j g in_order e within).right;
-  }
-
-module _ (first : ℕ) (gates : List Gate) (order : List ℕ) (h : IsOrder first gates order) where
-  pub length-moved : length (moved_gates first gates order) ≡ length order
-  length-moved = length-map order (λ i. moved_gate first order (get_or gates i (record { left = 0; right = 0 })))
-
-  the_gate : (p : ℕ) (g : Gate) → slice_get (moved_gates first gates order) p ≡ Some g → (old : Gate) × (j : ℕ) × (slice_get gates j ≡ Some old) × (g ≡ moved_gate first order old) × (place_in order j ≤ p)
-  the_gate p g e =
-      let inside : p < length order = omega (arith, length-moved, slice_get_within (moved_gates first gates order) p g e) in
-      let j : ℕ = get_or order p 0 in
-      let j_within : j < length gates = h.below p inside in
-      let old : Gate = get_or gates j (record { left = 0; right = 0 }) in
-      let there : slice_get gates j ≡ Some old = slice_get-get_or gates j (record { left = 0; right = 0 }) j_within in
-      (old, j, there, same_gate g (moved_gate first order old) (sym e ∙ moved_at first gates order h j p old inside refl there), first_place order p inside)
-
-  -- the moved gates stand each after its operands
-  pub InOrder-moved : InOrder first (moved_gates first gates order)
-  InOrder-moved p g e =
-      let o = the_gate p g e in
-      let m = operands_moved first gates order h o.1 o.0 o.2 in
-      let l : g.left / 2 ≡ moved_variable first order (o.0.left / 2) = ap (λ (x : Gate). x.left / 2) o.3 ∙ half first order o.0.left in
-      let r : g.right / 2 ≡ moved_variable first order (o.0.right / 2) = ap (λ (x : Gate). x.right / 2) o.3 ∙ half first order o.0.right in
-      (omega (arith, l, m.0, o.4), omega (arith, r, m.1, o.4))
-
-  -- a moved literal is one of the moved circuit
-  pub moved_within : (l : ℕ) → l / 2 < first + length gates → moved first order l / 2 < first + length (moved_gates first gates order)
-  moved_within l within =
-      omega (arith, half first order l, length-moved, moved_before first order (l / 2) (length order) (nat_lt (l / 2) first) refl (λ k is. h.within k (omega (arith, within, is))))

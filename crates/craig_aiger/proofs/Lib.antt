@@ -7,8 +7,6 @@ mod TextLemmas
 mod WritableLemmas
 mod AppendingLemmas
 mod TextWordLemmas
-mod CircuitDepthLemmas
-mod CircuitOrderLemmas
 mod CircuitMovedLemmas
 mod TextLinesLemmas
 mod TextSectionLemmas

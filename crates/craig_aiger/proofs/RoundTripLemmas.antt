@@ -21,10 +21,11 @@ use Rattle.craig_aiger.specs.declared.out_name.OutName.{OutName}
 use Rattle.craig_aiger.specs.Layouts.{IsWritable, Layout, circuit_of}
 use Rattle.craig_aiger.specs.OutNames.{name_text}
 use Rattle.craig_aiger.specs.RoundTrip.{ReadsAs, SameCircuit}
-use Rattle.craig_aiger.proofs.CircuitDepthLemmas.{InOrder}
+use Rattle.craig_spec.proofs.AigerDepthLemmas.{HaveDepths-ordered, InOrder}
+use Rattle.craig_spec.proofs.AigerMovedLemmas.{AreInside-ordered, InOrder-moved, IsOrder, IsOrder-by_depth, moved_within}
 use Rattle.craig_aiger.proofs.TextFileLemmas.{Each, each_mapped, each_of, file_is, numbered_same, to_gate, to_map, Within}
 use Rattle.craig_aiger.proofs.TextLinesLemmas.{aag_text-lines, body_lines, header_bytes, text_lines, text_lines-lines}
-use Rattle.craig_aiger.proofs.CircuitMovedLemmas.{InOrder-moved, IsOrder, IsOrder-by_depth, cone_moved, moved_within, value_moved}
+use Rattle.craig_aiger.proofs.CircuitMovedLemmas.{cone_moved, value_moved}
 use Rattle.craig_aiger.proofs.TextSectionLemmas.{bytes_of, counts, literals_of, operands_of}
 use Rattle.craig_aiger.proofs.TextSymbolLemmas.{input_name, layout_symbols, output_name}
 use Rattle.craig_aiger.proofs.TextWordLemmas.{bytes-lines_of, five_numbers, variable_in-decimal}
@@ -129,7 +130,7 @@ module _ (l : Layout) (h : IsWritable l) where
   order = by_depth first gates
 
   is_order : IsOrder first gates order
-  is_order = IsOrder-by_depth first gates in_order
+  is_order = IsOrder-by_depth first gates (AreInside-ordered first gates in_order) (HaveDepths-ordered first gates in_order)
 
   abbrev circuit : Circuit
   circuit = record { inputs = l.inputs; gates = moved_gates first gates order; outputs = map (to_output (moved first order)) l.outputs }

@@ -9,8 +9,8 @@ use Rattle.std.proofs.lemmas.List.Sums.{position_or_len_is}
 use Rattle.std.proofs.lemmas.Option.{slice_get-get_or}
 use Rattle.craig_spec.specs.Circuit.{Gate}
 use Rattle.craig_spec.specs.AigerReading.{GateLine, RootLine, Symbol, Use, Written, by_depth, file_by, file_written, first_cyclic, first_gate, first_undefined, gate_depth, gate_use, is_new, numbered, numbered_gates, place_in, root_use, uses_of, uses_other, variables_of}
-use Rattle.craig_aiger.proofs.CircuitDepthLemmas.{InOrder, gate_depth-is}
-use Rattle.craig_aiger.proofs.CircuitOrderLemmas.{has-range}
+use Rattle.craig_spec.proofs.AigerDepthLemmas.{HaveDepths-none, HaveDepths-ordered, InOrder}
+use Rattle.craig_spec.proofs.AigerOrderLemmas.{has-range}
 use Rattle.craig_aiger.proofs.TextSectionLemmas.{operands_of, range-split, variables_of_gates}
 use Rattle.craig_aiger.proofs.TextWrittenLemmas.{range-one, written_of}
 
@@ -69,17 +69,6 @@ no_gate : (n : ℕ) (gates : List GateLine) → Each (λ (g : GateLine). Within 
 no_gate n [] h = refl
 no_gate n (g ∷ gates) h = rw (known-range n g.left h.0.0, known-range n g.right h.0.1) (no_gate n gates h.1)
 
-some_depth : (o : Option ℕ) (n : ℕ) → o ≡ Some n → is_none o ≡ false
-some_depth o n e = rw e refl
-
--- every gate has a depth
-no_cycle : (first k : ℕ) (gates : List Gate) (lines : List GateLine) → InOrder first gates → k + length lines ≤ length gates → find (λ (p : ℕ × GateLine). is_none (gate_depth first gates p.0)) (enumerate_from k lines) ≡ None
-no_cycle first k gates [] order h = refl
-no_cycle first k gates (g ∷ lines) order h =
-    let within : k < length gates = omega arith in
-    let there : slice_get gates k ≡ Some (get_or gates k (record { left = 0; right = 0 })) = slice_get-get_or gates k (record { left = 0; right = 0 }) within in
-    rw (some_depth (gate_depth first gates k) _ (gate_depth-is first gates k (get_or gates k (record { left = 0; right = 0 })) order there within)) (no_cycle first (k + 1) gates lines order (omega arith))
-
 module _ (inputs : List ℕ) (outputs : List RootLine) (lines : List GateLine) (symbols : List Symbol) (many count : ℕ) (inputs_are : inputs ≡ range_with_len 1 many) (variables_are : variables_of_gates lines ≡ range_with_len (1 + many) count)
     (roots_within : Each (λ (r : RootLine). r.literal / 2 < 1 + many + count) outputs) (gates_within : Each (λ (g : GateLine). Within (1 + many + count) (g.left, g.right)) lines) where
   abbrev w : Written
@@ -108,7 +97,7 @@ module _ (inputs : List ℕ) (outputs : List RootLine) (lines : List GateLine) (
   pub file_is : InOrder (1 + many) (map to_gate (operands_of lines)) → file_written w ≡ Ok (file_by w (1 + many) (map to_gate (operands_of lines)) (by_depth (1 + many) (map to_gate (operands_of lines))))
   unfolding file_written
   file_is order =
-      let cyclic_none : first_cyclic (1 + many) (map to_gate (operands_of lines)) lines ≡ None = ap (option_map (λ (p : ℕ × GateLine). p.1.offset)) (no_cycle (1 + many) 0 (map to_gate (operands_of lines)) lines order (omega (arith, gate_count))) in
+      let cyclic_none : first_cyclic (1 + many) (map to_gate (operands_of lines)) lines ≡ None = ap (option_map (λ (p : ℕ × GateLine). p.1.offset)) (HaveDepths-none (1 + many) 0 (map to_gate (operands_of lines)) lines (HaveDepths-ordered (1 + many) (map to_gate (operands_of lines)) order) (omega (arith, gate_count))) in
       rw (undefined_none, gates_are, first_is, cyclic_none) refl
 
   -- a literal keeps its number before the gates are put in order

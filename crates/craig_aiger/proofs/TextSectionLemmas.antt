@@ -9,7 +9,7 @@ use Rattle.craig_spec.specs.AigerFault.{Fault}
 use Rattle.craig_spec.specs.AigerReading.{Counts, GateLine, RootLine, TextLine, gate_in, gate_of, input_in, input_of, is_literal, is_new, is_variable, numbers_in, read_lines, root_in, root_of}
 use Rattle.craig_aiger.specs.declared.out_name.OutName.{OutName}
 use Rattle.craig_aiger.proofs.TextLinesLemmas.{each_line, get_or-each_line, length-each_line, gate_bytes, input_bytes, output_bytes}
-use Rattle.craig_aiger.proofs.CircuitOrderLemmas.{has}
+use Rattle.craig_spec.proofs.AigerOrderLemmas.{has}
 use Rattle.craig_aiger.proofs.TextWordLemmas.{one_number, three_numbers}
 
 -- the bytes of lines

@@ -1,3 +1,4 @@
+//! The forms of a text.
 /// A form in which a layout is written.
 #[derive(Clone, Copy, Debug, PartialEq, Eq, Hash)]
 pub enum Form {

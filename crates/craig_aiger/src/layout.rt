@@ -1,3 +1,6 @@
+//! The layout of the cones of some edges, and what is read of it and written.
+//!
+//! The form of the text is that of Biere, Heljanko and Wieringa, AIGER 1.9 and beyond, 2011.
 ghost use Rattle.std.specs.Prelude.{◌≡◌, ◌<◌, ◌++◌, ℕ, All, Contains, length, slice_get, Some, IfOk, IsOk, OnOk, OnErr};
 ghost use Rattle.craig_spec.specs.Circuit.{IsStrict};
 ghost use Rattle.craig_aig.specs.Cones.{cone};
@@ -17,7 +20,7 @@ use craig_base::Names;
 use std::alloc::{AllocError, Global};
 use std::marker::Model;
 
-// Where there are more nodes or outputs, memory counts as wanting.
+/// Where there are more nodes or outputs, memory counts as wanting.
 const LIMIT: usize = 1099511627776;
 
 /// The cones of some edges as a circuit: its inputs by rising script variable, its gates in the order of the
@@ -162,7 +165,7 @@ mod tests {
     use craig_base::Var;
     use std::test::Fail;
 
-    // The conjunction of the inputs of two named variables.
+    /// The conjunction of the inputs of two named variables.
     fn both(aig: &mut Aig, names: &Names, left: Var, right: Var) -> Result<Edge, AllocError>
         requires left { left.0 < length names.now }
         requires right { right.0 < length names.now }
@@ -174,7 +177,7 @@ mod tests {
         aig.and(one, two)
     }
 
-    // The layout of one output.
+    /// The layout of one output.
     fn of_one(
         alloc: Global,
         aig: &Aig,

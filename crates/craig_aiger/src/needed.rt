@@ -7,7 +7,7 @@ use crate::OutName;
 use craig_aig::{Aig, Edge, Node};
 use std::alloc::{AllocError, Global};
 
-// Keeps the node of the edge.
+/// Keeps the node of the edge.
 fn keep(table: &mut [Option<Node>], aig: &Aig, edge: Edge)
     requires lengths { length table.old ≡ length aig.now }
     requires within { edge.place < length aig.now }
@@ -17,7 +17,7 @@ fn keep(table: &mut [Option<Node>], aig: &Aig, edge: Edge)
     table[edge.place()] = Some(aig.node(edge));
 }
 
-// Keeps the nodes of the outputs' edges.
+/// Keeps the nodes of the outputs' edges.
 fn keep_outputs(table: &mut [Option<Node>], aig: &Aig, outputs: &[(OutName, Edge)])
     requires lengths { length table.old ≡ length aig.now }
     requires none { (k : ℕ) → at table.old k ≡ None }
@@ -29,7 +29,7 @@ fn keep_outputs(table: &mut [Option<Node>], aig: &Aig, outputs: &[(OutName, Edge
     }
 }
 
-// The operands of a node, if there is one and it is a gate.
+/// The operands of a node, if there is one and it is a gate.
 pub(crate) fn gate_operands(node: &Option<Node>) -> Option<(Edge, Edge)>
     ensures { result ≡ node_operands node.now }
 {
@@ -39,7 +39,7 @@ pub(crate) fn gate_operands(node: &Option<Node>) -> Option<(Edge, Edge)>
     }
 }
 
-// Keeps what the kept nodes need, from the last node to the first.
+/// Keeps what the kept nodes need, from the last node to the first.
 fn keep_back(table: &mut [Option<Node>], aig: &Aig, outputs: &[(OutName, Edge)])
     requires is_arena { IsAig aig.now }
     requires rooted { IsRooted aig.now (edges_of outputs.now) table.old }
@@ -55,7 +55,7 @@ fn keep_back(table: &mut [Option<Node>], aig: &Aig, outputs: &[(OutName, Edge)])
     }
 }
 
-// The nodes that the outputs need, each at its place.
+/// The nodes that the outputs need, each at its place.
 pub(crate) fn needed_nodes(
     alloc: Global,
     aig: &Aig,

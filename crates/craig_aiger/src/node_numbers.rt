@@ -12,7 +12,7 @@ use craig_aig::{Edge, Node};
 use craig_base::Names;
 use std::alloc::{AllocError, Global};
 
-// The number of a node, where so many variables are the constant, the inputs and the gates before.
+/// The number of a node, where so many variables are the constant, the inputs and the gates before.
 fn number_of(node: &Option<Node>, names: &Names, inputs: &[u32], taken: u64) -> u64
     requires rising { IsStrictlyIncreasing inputs.now }
     requires few { length inputs.now < 2 ^ 41 }
@@ -31,7 +31,7 @@ fn number_of(node: &Option<Node>, names: &Names, inputs: &[u32], taken: u64) -> 
     }
 }
 
-// The number of a gate more, if the node is one.
+/// The number of a gate more, if the node is one.
 fn taken_after(node: &Option<Node>, taken: u64) -> u64
     requires { taken < 2 ^ 42 }
     ensures { result ≡ taken + length (filter_map node_operands (node.now ∷ [])) }
@@ -42,7 +42,7 @@ fn taken_after(node: &Option<Node>, taken: u64) -> u64
     }
 }
 
-// The number of each node of the table, and 0 where there is none.
+/// The number of each node of the table, and 0 where there is none.
 pub(crate) fn number_nodes(
     alloc: Global,
     table: &[Option<Node>],
@@ -67,7 +67,7 @@ pub(crate) fn number_nodes(
     Ok(numbers)
 }
 
-// The literal of an edge.
+/// The literal of an edge.
 fn edge_literal(numbers: &[u64], edge: Edge) -> u64
     requires within { edge.place < length numbers.now }
     requires small { All (λ n. n < 2 ^ 43) numbers.now }
@@ -76,7 +76,7 @@ fn edge_literal(numbers: &[u64], edge: Edge) -> u64
     2 * numbers[edge.place()] + u64::from(edge.negated())
 }
 
-// The gate of two operand literals, the greater first.
+/// The gate of two operand literals, the greater first.
 fn ordered_gate(first: u64, second: u64) -> (u64, u64)
     ensures { result ≡ ordered first second }
 {
@@ -87,7 +87,7 @@ fn ordered_gate(first: u64, second: u64) -> (u64, u64)
     }
 }
 
-// The gates of the table, in its order.
+/// The gates of the table, in its order.
 pub(crate) fn numbered_gates(
     alloc: Global,
     table: &[Option<Node>],
@@ -109,7 +109,7 @@ pub(crate) fn numbered_gates(
     Ok(gates)
 }
 
-// An output of a name: the number of its cut has 32 bits.
+/// An output of a name: the number of its cut has 32 bits.
 fn output_of(name: OutName, literal: u64) -> (OutName, u64)
     ensures value { result ≡ (name, literal) }
     ensures cut { result.0.cut < 2 ^ 32 }
@@ -117,7 +117,7 @@ fn output_of(name: OutName, literal: u64) -> (OutName, u64)
     (name, literal)
 }
 
-// The outputs with the literals of their edges.
+/// The outputs with the literals of their edges.
 pub(crate) fn numbered_outputs(
     alloc: Global,
     outputs: &[(OutName, Edge)],

@@ -1,3 +1,4 @@
+//! The names of outputs.
 ghost use Rattle.std.specs.Prelude.{Some};
 ghost use Rattle.craig_aiger.specs.OutNames.{name_text};
 

@@ -9,7 +9,7 @@ use craig_aig::Node;
 use craig_base::{Names, Var};
 use std::alloc::{AllocError, Global};
 
-// The variable of a node, if there is one and it is an input.
+/// The variable of a node, if there is one and it is an input.
 pub(crate) fn node_input(node: &Option<Node>) -> Option<Var>
     ensures { node_variable node.now ≡ option_map (λ v. v.0) result }
 {
@@ -19,7 +19,7 @@ pub(crate) fn node_input(node: &Option<Node>) -> Option<Var>
     }
 }
 
-// The names of the inputs in the table, in its order.
+/// The names of the inputs in the table, in its order.
 fn names_in(alloc: Global, table: &[Option<Node>], names: &Names) -> Result<Vec<u32>, AllocError>
     requires { AreNamed names.now table.now }
     ensures names { IfOk result (λ v. v.items ≡ map (slice_index names.now) (filter_map node_variable table.now)) }
@@ -36,7 +36,7 @@ fn names_in(alloc: Global, table: &[Option<Node>], names: &Names) -> Result<Vec<
     Ok(inputs)
 }
 
-// The names of the inputs in the table, by rising number. No two inputs have one name.
+/// The names of the inputs in the table, by rising number. No two inputs have one name.
 pub(crate) fn input_names(
     alloc: Global,
     table: &[Option<Node>],
@@ -54,7 +54,7 @@ pub(crate) fn input_names(
     Ok(inputs)
 }
 
-// The number of the input that has the name, counted from 1.
+/// The number of the input that has the name, counted from 1.
 pub(crate) fn input_number(inputs: &[u32], name: u32) -> u64
     requires rising { IsStrictlyIncreasing inputs.now }
     requires there { Contains inputs.now name }

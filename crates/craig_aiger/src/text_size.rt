@@ -6,7 +6,7 @@ ghost use Rattle.craig_aiger.specs.OutNames.{family_text, name_text};
 use crate::{Family, OutName};
 use itoa::Buffer;
 
-// The number of decimal digits.
+/// The number of decimal digits.
 fn digits(number: u64) -> u64
     ensures value { result ≡ length (decimal number) }
     ensures small { result ≤ 20 }
@@ -15,7 +15,7 @@ fn digits(number: u64) -> u64
     buffer.format(number).len() as u64
 }
 
-// The size of a literal's line.
+/// The size of a literal's line.
 fn literal_size(literal: u64) -> u64
     ensures value { result ≡ length (literal_line literal) }
     ensures small { result ≤ 21 }
@@ -23,7 +23,7 @@ fn literal_size(literal: u64) -> u64
     digits(literal) + 1
 }
 
-// The size of a gate's line.
+/// The size of a gate's line.
 fn gate_size(variable: u64, gate: (u64, u64)) -> u64
     requires { variable < 2 ^ 63 }
     ensures value { result ≡ length (gate_line variable gate) }
@@ -32,7 +32,7 @@ fn gate_size(variable: u64, gate: (u64, u64)) -> u64
     digits(2 * variable) + 1 + digits(gate.0) + 1 + literal_size(gate.1)
 }
 
-// The size of a family's letter.
+/// The size of a family's letter.
 fn family_size(family: Option<Family>) -> u64
     ensures value { result ≡ length (family_text family) }
     ensures small { result ≤ 1 }
@@ -43,7 +43,7 @@ fn family_size(family: Option<Family>) -> u64
     }
 }
 
-// The size of the name of an output.
+/// The size of the name of an output.
 fn name_size(name: OutName) -> u64
     ensures value { result ≡ length (name_text name) }
     ensures small { result ≤ 21 }
@@ -51,7 +51,7 @@ fn name_size(name: OutName) -> u64
     family_size(name.family) + digits(u64::from(name.cut))
 }
 
-// The size of the line that names an input.
+/// The size of the line that names an input.
 fn input_symbol_size(place: u64, input: u32) -> u64
     ensures value { result ≡ length (input_symbol place input) }
     ensures small { result ≤ 63 }
@@ -59,7 +59,7 @@ fn input_symbol_size(place: u64, input: u32) -> u64
     1 + digits(place) + 1 + literal_size(u64::from(input))
 }
 
-// The size of the line that names an output.
+/// The size of the line that names an output.
 fn output_symbol_size(place: u64, output: (OutName, u64)) -> u64
     ensures value { result ≡ length (output_symbol place output) }
     ensures small { result ≤ 63 }
@@ -67,7 +67,7 @@ fn output_symbol_size(place: u64, output: (OutName, u64)) -> u64
     1 + digits(place) + 1 + name_size(output.0) + 1
 }
 
-// The size of the lines of the inputs.
+/// The size of the lines of the inputs.
 fn inputs_size(inputs: &[u32]) -> u64
     requires { length inputs.now ≤ 2 ^ 40 }
     ensures value { result ≡ length (numbered_lines input_line 1 inputs.now) }
@@ -80,7 +80,7 @@ fn inputs_size(inputs: &[u32]) -> u64
     size
 }
 
-// The size of the lines of the outputs.
+/// The size of the lines of the outputs.
 fn outputs_size(outputs: &[(OutName, u64)]) -> u64
     requires { length outputs.now ≤ 2 ^ 40 }
     ensures value { result ≡ length (numbered_lines output_line 0 outputs.now) }
@@ -93,7 +93,7 @@ fn outputs_size(outputs: &[(OutName, u64)]) -> u64
     size
 }
 
-// The size of the lines of the gates, whose variables are numbered from `first` on.
+/// The size of the lines of the gates, whose variables are numbered from `first` on.
 fn gates_size(first: u64, gates: &[(u64, u64)]) -> u64
     requires small { first ≤ 2 ^ 41 }
     requires few { length gates.now ≤ 2 ^ 40 }
@@ -107,7 +107,7 @@ fn gates_size(first: u64, gates: &[(u64, u64)]) -> u64
     size
 }
 
-// The size of the lines that name the inputs.
+/// The size of the lines that name the inputs.
 fn input_symbols_size(inputs: &[u32]) -> u64
     requires { length inputs.now ≤ 2 ^ 40 }
     ensures value { result ≡ length (numbered_lines input_symbol 0 inputs.now) }
@@ -120,7 +120,7 @@ fn input_symbols_size(inputs: &[u32]) -> u64
     size
 }
 
-// The size of the lines that name the outputs.
+/// The size of the lines that name the outputs.
 fn output_symbols_size(outputs: &[(OutName, u64)]) -> u64
     requires { length outputs.now ≤ 2 ^ 40 }
     ensures value { result ≡ length (numbered_lines output_symbol 0 outputs.now) }
@@ -133,7 +133,7 @@ fn output_symbols_size(outputs: &[(OutName, u64)]) -> u64
     size
 }
 
-// The size of the header.
+/// The size of the header.
 fn header_size(inputs: u64, outputs: u64, gates: u64) -> u64
     requires { inputs + gates < 2 ^ 63 }
     ensures value { result ≡ length (aag_header inputs outputs gates) }
@@ -142,7 +142,7 @@ fn header_size(inputs: u64, outputs: u64, gates: u64) -> u64
     4 + digits(inputs + gates) + 1 + digits(inputs) + 3 + digits(outputs) + 1 + literal_size(gates)
 }
 
-// The size of the text of the layout with these inputs, gates and outputs.
+/// The size of the text of the layout with these inputs, gates and outputs.
 pub(crate) fn text_size(inputs: &[u32], gates: &[(u64, u64)], outputs: &[(OutName, u64)]) -> u64
     requires inputs { length inputs.now ≤ 2 ^ 40 }
     requires gates { length gates.now ≤ 2 ^ 40 }

@@ -7,7 +7,7 @@ ghost use Rattle.craig_aiger.specs.OutNames.{family_text, name_text};
 use crate::{Family, OutName};
 use itoa::Buffer;
 
-// Bytes as they are.
+/// Bytes as they are.
 fn append_bytes(out: &mut Vec<u8>, bytes: &[u8])
     requires { HasRoom out.old (length bytes.now) }
     ensures { IsAppended out.old bytes.now out.new }
@@ -15,7 +15,7 @@ fn append_bytes(out: &mut Vec<u8>, bytes: &[u8])
     out.extend_from_slice(bytes).unwrap();
 }
 
-// A number in decimal digits.
+/// A number in decimal digits.
 fn append_number(out: &mut Vec<u8>, number: u64)
     requires { HasRoom out.old (length (decimal number)) }
     ensures { IsAppended out.old (decimal number) out.new }
@@ -24,7 +24,7 @@ fn append_number(out: &mut Vec<u8>, number: u64)
     append_bytes(out, buffer.format(number).as_bytes());
 }
 
-// A literal on a line.
+/// A literal on a line.
 fn append_literal(out: &mut Vec<u8>, literal: u64)
     requires { HasRoom out.old (length (literal_line literal)) }
     ensures { IsAppended out.old (literal_line literal) out.new }
@@ -33,7 +33,7 @@ fn append_literal(out: &mut Vec<u8>, literal: u64)
     append_bytes(out, b"\n");
 }
 
-// A gate on a line.
+/// A gate on a line.
 fn append_gate(out: &mut Vec<u8>, variable: u64, gate: (u64, u64))
     requires small { variable < 2 ^ 63 }
     requires room { HasRoom out.old (length (gate_line variable gate)) }
@@ -46,7 +46,7 @@ fn append_gate(out: &mut Vec<u8>, variable: u64, gate: (u64, u64))
     append_literal(out, gate.1);
 }
 
-// The letter of a family.
+/// The letter of a family.
 fn append_family(out: &mut Vec<u8>, family: Option<Family>)
     requires { HasRoom out.old (length (family_text family)) }
     ensures { IsAppended out.old (family_text family) out.new }
@@ -59,7 +59,7 @@ fn append_family(out: &mut Vec<u8>, family: Option<Family>)
     }
 }
 
-// The name of an output.
+/// The name of an output.
 fn append_name(out: &mut Vec<u8>, name: OutName)
     requires { HasRoom out.old (length (name_text name)) }
     ensures { IsAppended out.old (name_text name) out.new }
@@ -68,7 +68,7 @@ fn append_name(out: &mut Vec<u8>, name: OutName)
     append_number(out, u64::from(name.cut));
 }
 
-// The line that names an input.
+/// The line that names an input.
 fn append_input_symbol(out: &mut Vec<u8>, place: u64, input: u32)
     requires { HasRoom out.old (length (input_symbol place input)) }
     ensures { IsAppended out.old (input_symbol place input) out.new }
@@ -79,7 +79,7 @@ fn append_input_symbol(out: &mut Vec<u8>, place: u64, input: u32)
     append_literal(out, u64::from(input));
 }
 
-// The line that names an output.
+/// The line that names an output.
 fn append_output_symbol(out: &mut Vec<u8>, place: u64, output: (OutName, u64))
     requires { HasRoom out.old (length (output_symbol place output)) }
     ensures { IsAppended out.old (output_symbol place output) out.new }
@@ -91,7 +91,7 @@ fn append_output_symbol(out: &mut Vec<u8>, place: u64, output: (OutName, u64))
     append_bytes(out, b"\n");
 }
 
-// The lines of the inputs, whose variables are numbered from 1 on.
+/// The lines of the inputs, whose variables are numbered from 1 on.
 fn append_inputs(out: &mut Vec<u8>, inputs: &[u32])
     requires { HasRoom out.old (length (numbered_lines input_line 1 inputs.now)) }
     ensures { IsAppended out.old (numbered_lines input_line 1 inputs.now) out.new }
@@ -101,7 +101,7 @@ fn append_inputs(out: &mut Vec<u8>, inputs: &[u32])
     }
 }
 
-// The lines of the outputs.
+/// The lines of the outputs.
 fn append_outputs(out: &mut Vec<u8>, outputs: &[(OutName, u64)])
     requires { HasRoom out.old (length (numbered_lines output_line 0 outputs.now)) }
     ensures { IsAppended out.old (numbered_lines output_line 0 outputs.now) out.new }
@@ -111,7 +111,7 @@ fn append_outputs(out: &mut Vec<u8>, outputs: &[(OutName, u64)])
     }
 }
 
-// The lines of the gates, whose variables are numbered from `first` on.
+/// The lines of the gates, whose variables are numbered from `first` on.
 fn append_gates(out: &mut Vec<u8>, first: u64, gates: &[(u64, u64)])
     requires small { first + length gates.now < 2 ^ 63 }
     requires room { HasRoom out.old (length (numbered_lines gate_line first gates.now)) }
@@ -122,7 +122,7 @@ fn append_gates(out: &mut Vec<u8>, first: u64, gates: &[(u64, u64)])
     }
 }
 
-// The lines that name the inputs.
+/// The lines that name the inputs.
 fn append_input_symbols(out: &mut Vec<u8>, inputs: &[u32])
     requires { HasRoom out.old (length (numbered_lines input_symbol 0 inputs.now)) }
     ensures { IsAppended out.old (numbered_lines input_symbol 0 inputs.now) out.new }
@@ -132,7 +132,7 @@ fn append_input_symbols(out: &mut Vec<u8>, inputs: &[u32])
     }
 }
 
-// The lines that name the outputs.
+/// The lines that name the outputs.
 fn append_output_symbols(out: &mut Vec<u8>, outputs: &[(OutName, u64)])
     requires { HasRoom out.old (length (numbered_lines output_symbol 0 outputs.now)) }
     ensures { IsAppended out.old (numbered_lines output_symbol 0 outputs.now) out.new }
@@ -142,7 +142,7 @@ fn append_output_symbols(out: &mut Vec<u8>, outputs: &[(OutName, u64)])
     }
 }
 
-// The header: the greatest variable, and the numbers of inputs, latches, outputs and gates.
+/// The header: the greatest variable, and the numbers of inputs, latches, outputs and gates.
 fn append_header(out: &mut Vec<u8>, inputs: u64, outputs: u64, gates: u64)
     requires small { inputs + gates < 2 ^ 63 }
     requires room { HasRoom out.old (length (aag_header inputs outputs gates)) }
@@ -158,7 +158,7 @@ fn append_header(out: &mut Vec<u8>, inputs: u64, outputs: u64, gates: u64)
     append_literal(out, gates);
 }
 
-// The text of the layout with these inputs, gates and outputs.
+/// The text of the layout with these inputs, gates and outputs.
 pub(crate) fn append_text(
     out: &mut Vec<u8>,
     inputs: &[u32],

@@ -11,15 +11,8 @@ use Rattle.craig_spec.specs.AigerFault.{FaultKind}
 use Rattle.craig_spec.specs.Circuit.{Gate}
 use Rattle.std.proofs.lemmas.Option.{slice_get-get_or}
 use Rattle.craig_aiger_read.specs.ReadOrder.{AreDeep}
-use Rattle.craig_aiger_read.proofs.DepthLemmas.{depth-le, gate-deep}
+use Rattle.craig_spec.proofs.AigerDepthLemmas.{HaveDepths-found, depth-le, gate-deep, is_deepless}
 use Rattle.craig_aiger_read.specs.ReadDepths.{AreDepths, StayKnown, depths_of}
-
-some-none-clash : {A : Type 0} {x : A} → ◌≡◌ {A = Option A} (Some x) None → ⊥
-some-none-clash e = cc
-
--- whether the gate at the place of a line has no depth
-abbrev pub is_deepless : ℕ → List Gate → ℕ × GateLine → Bool
-is_deepless first gates p = is_none (gate_depth first gates p.0)
 
 -- the depths of so many gates are known
 pub record SettledSoFar (first : ℕ) (gates : List Gate) (lines : List GateLine) (i : ℕ) (known : List (Option ℕ)) : Type 0 where
@@ -86,23 +79,6 @@ settled-all first gates lines i known h past beside =
     ∙ get_or_default known k None d (omega (arith, low, h.depths.long))) in
     rw (found, all) refl
 
-found-none : (first : ℕ) (gates : List Gate) (lines : List GateLine) (a j : ℕ) → find (is_deepless first gates) (enumerate_from a lines) ≡ None → j < length lines →
-    is_none (gate_depth first gates (a + j)) ≡ false
-found-none first gates [] a j h inside = absurd (omega arith)
-found-none first gates (line ∷ lines) a j h inside = found-by first gates line lines a j (is_none (gate_depth first gates a)) refl h inside (λ k e low. found-none first gates lines (a + 1) k e low)
-  where
-    found-by : (first : ℕ) (gates : List Gate) (line : GateLine) (lines : List GateLine) (a j : ℕ) (t : Bool) → is_none (gate_depth first gates a) ≡ t →
-        cond t (Some (a, line)) (find (is_deepless first gates) (enumerate_from (a + 1) lines)) ≡ None → j < suc (length lines) →
-        ((k : ℕ) → find (is_deepless first gates) (enumerate_from (a + 1) lines) ≡ None → k < length lines → is_none (gate_depth first gates (a + 1 + k)) ≡ false) →
-        is_none (gate_depth first gates (a + j)) ≡ false
-    found-by first gates line lines a j true e h inside rec = absurd (some-none-clash h)
-    found-by first gates line lines a zero false e h inside rec = ap (λ z. is_none (gate_depth first gates z)) (omega arith) ∙ e
-    found-by first gates line lines a (suc k) false e h inside rec = ap (λ z. is_none (gate_depth first gates z)) (omega arith) ∙ rec k h (omega arith)
-
-some-of : (o : Option ℕ) → is_none o ≡ false → (d : ℕ) × (o ≡ Some d)
-some-of None e = cc
-some-of (Some d) e = (d, refl)
-
 depths-by : (first : ℕ) (gates : List Gate) (lines : List GateLine) (known : List (Option ℕ)) (o : Option (ℕ × GateLine)) → find (is_deepless first gates) (enumerate_from 0 lines) ≡ o →
     unless_found FaultKind.Cycle (option_map (λ (p : ℕ × GateLine). p.1.offset) o) (Ok (map (gate_depth first gates) (range_with_len 0 (length gates)))) ≡ Ok known →
     (o ≡ None) × (known ≡ map (gate_depth first gates) (range_with_len 0 (length gates)))
@@ -126,7 +102,7 @@ depths-all first gates lines known beside h =
       deep = λ j inside.
           let low : j < length gates = omega (arith, inside, size) in
           let place : 0 + j ≡ j = omega arith in
-          let s = some-of (gate_depth first gates j) (ap (λ z. is_none (gate_depth first gates z)) (sym place) ∙ found-none first gates lines 0 j p.0 (omega (arith, low, beside))) in
+          let s = HaveDepths-found first gates lines beside p.0 j low in
           let at : get_or known j None ≡ Some s.0 = ap (λ z. get_or z j None) p.1 ∙ get_or-map-range_with_len (gate_depth first gates) 0 (length gates) j j None low place ∙ s.1 in
           let g : Gate = record { left = 0; right = 0 } in
           let one = gate-deep first gates (length gates) j s.0 (get_or gates j g) (slice_get-get_or gates j g low) s.1 in

@@ -7,7 +7,6 @@ mod SymbolLemmas
 mod VariablesLemmas
 mod WrittenLemmas
 mod NumberingLemmas
-mod DepthLemmas
 mod SettleLemmas
 mod CircleLemmas
 mod OrderLemmas

@@ -3,7 +3,7 @@ use Rattle.std.proofs.Common.{◌≡◌, ℕ, ◌-◌, List, [], ◌∷◌, leng
 use Rattle.std.specs.Prelude.{IfErr, IfOk}
 use Rattle.std.specs.List.{slice_split}
 use Rattle.craig_spec.specs.AigerFault.{Fault, FaultKind}
-use Rattle.craig_spec.specs.AigerReading.{AigerFile, Counts, Written, fault, file_written, header_in, lines_of, placed, read_from, aiger_reading, without_empty_end, written_in}
+use Rattle.craig_spec.specs.AigerReading.{AigerFile, Counts, IsDefinedFile, Written, fault, file_written, header_in, lines_of, placed, read_from, aiger_reading, without_empty_end, written_in}
 use Rattle.craig_aiger_read.specs.declared.aiger_error.AigerError.{AigerError}
 use Rattle.craig_aiger_read.specs.declared.circuit.Circuit.{Circuit}
 use Rattle.craig_aiger_read.specs.Cuts.{is_byte}
@@ -43,3 +43,8 @@ pub reading-given : (K : Written → Type 0) (w : Written) (result : Result Circ
     IfOk result (λ circuit. (w : Written) → K w → file_written w ≡ Ok (as_file circuit)) → IfErr result (λ e. (w : Written) → K w → IsFaultOf e (file_written w)) → IsReadAs as_file result read
 reading-given K w (Ok circuit) read k same ok err = same ∙ ok w k
 reading-given K w (Err e) read k same ok err = rw same (err w k)
+
+-- what is read is a file in which whatever is used is there
+pub defined-read : (bytes : List ℕ) (result : Result Circuit AigerError) → ((b : List ℕ) (f : AigerFile) → aiger_reading b ≡ Ok f → IsDefinedFile f) → IsReadAs as_file result (aiger_reading bytes) → IfOk result (λ c. IsDefinedFile (as_file c))
+defined-read bytes (Ok c) law is = law bytes (as_file c) is
+defined-read bytes (Err e) law is = tt

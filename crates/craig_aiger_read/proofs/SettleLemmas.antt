@@ -10,7 +10,7 @@ use Rattle.std.specs.Option.{option_map}
 use Rattle.craig_aiger_read.specs.declared.gate.Gate.{Gate as KeptGate}
 use Rattle.craig_aiger_read.specs.ReadViews.{as_operands}
 use Rattle.craig_aiger_read.specs.ReadDepths.{AreDepths, StayKnown, known_count, known_depth}
-use Rattle.craig_aiger_read.proofs.DepthLemmas.{IsPath, Operand, depth-le, gate-deep, gate_depth-operands, leaf-depth, operand-depth, path-falls}
+use Rattle.craig_spec.proofs.AigerDepthLemmas.{IsPath, Operand, depth-le, gate-deep, gate_depth-operands, leaf-depth, operand-depth, path-falls}
 
 -- one more is known
 pub count-set : (known : List (Option ℕ)) (j d : ℕ) → j < length known → get_or known j None ≡ None → known_count (set known j (Some d)) ≡ suc (known_count known)

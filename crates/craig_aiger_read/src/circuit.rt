@@ -1,3 +1,4 @@
+//! What is read: a circuit with latches.
 use crate::{Gates, Inputs, Latches, Roots};
 
 /// A circuit with latches, as an AIGER text gives it.

@@ -15,7 +15,7 @@ pub(crate) fn cut_at(bytes: &[u8], separator: u8) -> (&[u8], Option<&[u8]>)
     }
 }
 
-// Where the first such byte stands, or else the end.
+/// Where the first such byte stands, or else the end.
 fn separator_place(bytes: &[u8], separator: u8) -> usize
     ensures place { result ≡ position_or_len (is_byte separator) bytes.now }
     ensures within { result ≤ length bytes.now }
@@ -23,7 +23,7 @@ fn separator_place(bytes: &[u8], separator: u8) -> usize
     first_place(bytes, separator).unwrap_or(bytes.len())
 }
 
-// Where the first such byte stands.
+/// Where the first such byte stands.
 fn first_place(bytes: &[u8], separator: u8) -> Option<usize>
     ensures { result ≡ position (is_byte separator) bytes.now }
 {

@@ -17,14 +17,14 @@ pub(crate) fn number_of(word: &[u8]) -> Option<u64>
     }
 }
 
-// Whether each byte is a digit.
+/// Whether each byte is a digit.
 fn are_digits(word: &[u8]) -> bool
     ensures { result ≡ list_all is_ascii_digit word.now }
 {
     word.iter().all(|byte| byte.is_ascii_digit())
 }
 
-// The number that the digits write.
+/// The number that the digits write.
 fn value_of(digits: &[u8]) -> u64
     requires digits { IsTrue (list_all is_ascii_digit digits.now) }
     requires short { length digits.now ≤ 18 }

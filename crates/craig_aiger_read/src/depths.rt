@@ -12,7 +12,7 @@ use crate::gate_line::GateLine;
 use crate::{AigerError, Gate};
 use std::alloc::{AllocError, Global};
 
-// What is known of a gate: its depth, or an operand that is a gate whose depth isn't known.
+/// What is known of a gate: its depth, or an operand that is a gate whose depth isn't known.
 enum Readiness {
     Depth(u64),
     Waits(usize),
@@ -39,7 +39,7 @@ pub(crate) fn gate_depths(
     Ok(depths)
 }
 
-// So many depths that aren't known.
+/// So many depths that aren't known.
 fn no_depths(alloc: Global, count: usize) -> Result<Vec<Option<u64>>, AllocError>
     ensures { IfOk result (λ v. v.items ≡ replicate count None) }
 {
@@ -50,7 +50,7 @@ fn no_depths(alloc: Global, count: usize) -> Result<Vec<Option<u64>>, AllocError
     Ok(depths)
 }
 
-// Finds the depth of a gate and those of the gates below it, and answers whether it has one.
+/// Finds the depth of a gate and those of the gates below it, and answers whether it has one.
 fn settle(
     alloc: Global,
     first: u64,
@@ -84,7 +84,7 @@ fn settle(
     Ok(true)
 }
 
-// The stack with the gate, if its depth isn't known.
+/// The stack with the gate, if its depth isn't known.
 fn first_of_stack(
     alloc: Global,
     depths: &[Option<u64>],
@@ -100,7 +100,7 @@ fn first_of_stack(
     Ok(stack)
 }
 
-// What is known of a gate.
+/// What is known of a gate.
 fn readiness_of(first: u64, gate: &Gate, depths: &[Option<u64>]) -> Readiness
     requires left { gate.now.left / 2 < first + length depths.now }
     requires right { gate.now.right / 2 < first + length depths.now }
@@ -116,7 +116,7 @@ fn readiness_of(first: u64, gate: &Gate, depths: &[Option<u64>]) -> Readiness
     Readiness::Depth(left.max(right) + 1)
 }
 
-// The depth of the literal's variable, where it is known: 0 for one that is no gate.
+/// The depth of the literal's variable, where it is known: 0 for one that is no gate.
 fn depth_of(first: u64, depths: &[Option<u64>], literal: u64) -> Option<u64>
     requires { literal / 2 < first + length depths.now }
     ensures { result ≡ known_depth first depths.now literal }
@@ -128,7 +128,7 @@ fn depth_of(first: u64, depths: &[Option<u64>], literal: u64) -> Option<u64>
     }
 }
 
-// The last of the stack.
+/// The last of the stack.
 fn top_of(stack: &[usize]) -> Option<usize>
     ensures { result ≡ slice_get stack.now (length stack.now - 1) }
 {

@@ -53,7 +53,7 @@ pub(crate) fn read_gates<'a>(
     Ok((gates, rest))
 }
 
-// The gate that a line is.
+/// The gate that a line is.
 fn gate_of(
     counts: &Counts,
     variables: &IndexSet<u64>,
@@ -72,7 +72,7 @@ fn gate_of(
     }
 }
 
-// The gate of a literal.
+/// The gate of a literal.
 fn gate_with(
     counts: &Counts,
     variables: &IndexSet<u64>,

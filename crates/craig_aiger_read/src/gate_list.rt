@@ -1,3 +1,4 @@
+//! The gates of a circuit.
 ghost use Rattle.std.specs.Prelude.{◌≡◌};
 
 use crate::Gate;
@@ -19,7 +20,7 @@ impl Model for Gates {
 }
 
 impl Gates {
-    // The list of what is in the vector.
+    /// The list of what is in the vector.
     pub(crate) fn from_vec(items: Vec<Gate>) -> Gates
         ensures { result ≡ items.items }
     {

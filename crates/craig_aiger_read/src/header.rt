@@ -25,14 +25,14 @@ pub(crate) fn header_of(line: &[u8]) -> Result<Counts, AigerError>
     counts_of(numbers.as_slice())
 }
 
-// Whether the letters are these.
+/// Whether the letters are these.
 fn are_letters(letters: &[u8], word: &[u8]) -> bool
     ensures { result ≡ bytes_eq letters.now word.now }
 {
     letters == word
 }
 
-// The header with these numbers.
+/// The header with these numbers.
 fn counts_of(numbers: &[u64]) -> Result<Counts, AigerError>
     requires small { All (λ n. n < 1000000000000000000) numbers.now }
     ensures { IsReadAs as_counts result (header_of 0 (Some numbers.now)) }
@@ -61,7 +61,7 @@ fn counts_of(numbers: &[u64]) -> Result<Counts, AigerError>
     })
 }
 
-// Whether each number is 0.
+/// Whether each number is 0.
 fn are_zero(numbers: &[u64]) -> bool
     ensures { result ≡ list_all (λ n. n == 0) numbers.now }
 {

@@ -38,7 +38,7 @@ pub(crate) fn read_inputs<'a>(
     Ok((variables, rest))
 }
 
-// The variable of the input that a line is.
+/// The variable of the input that a line is.
 fn input_of(
     counts: &Counts,
     variables: &IndexSet<u64>,

@@ -1,3 +1,4 @@
+//! The inputs of a circuit.
 ghost use Rattle.std.specs.Prelude.{◌≡◌};
 
 use crate::Name;
@@ -18,7 +19,7 @@ impl Model for Inputs {
 }
 
 impl Inputs {
-    // The list of what is in the vector.
+    /// The list of what is in the vector.
     pub(crate) fn from_vec(items: Vec<Option<Name>>) -> Inputs
         ensures { result ≡ items.items }
     {

@@ -1,3 +1,4 @@
+//! A latch of a circuit.
 use crate::{Name, Reset};
 
 /// A latch of a circuit.

@@ -53,7 +53,7 @@ pub(crate) fn read_latches<'a>(
     Ok((latches, rest))
 }
 
-// The latch that a line is.
+/// The latch that a line is.
 fn latch_of(
     counts: &Counts,
     variables: &IndexSet<u64>,
@@ -73,7 +73,7 @@ fn latch_of(
     }
 }
 
-// The latch of a literal.
+/// The latch of a literal.
 fn latch_with(
     counts: &Counts,
     variables: &IndexSet<u64>,
@@ -100,7 +100,7 @@ fn latch_with(
     })
 }
 
-// How the latch of a literal starts, by the last number of its line.
+/// How the latch of a literal starts, by the last number of its line.
 fn reset_of(offset: u64, own: u64, number: u64) -> Result<Reset, AigerError>
     ensures { IsReadAs as_reset result (reset_of offset own number) }
 {

@@ -1,3 +1,4 @@
+//! The latches of a circuit.
 ghost use Rattle.std.specs.Prelude.{◌≡◌};
 
 use crate::Latch;
@@ -19,7 +20,7 @@ impl Model for Latches {
 }
 
 impl Latches {
-    // The list of what is in the vector.
+    /// The list of what is in the vector.
     pub(crate) fn from_vec(items: Vec<Latch>) -> Latches
         ensures { result ≡ items.items }
     {

@@ -20,6 +20,7 @@ mod input_list;
 mod latch;
 mod latch_line;
 mod latch_list;
+pub mod laws;
 mod line_numbers;
 mod moving;
 mod name;

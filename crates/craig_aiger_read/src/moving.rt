@@ -62,7 +62,7 @@ pub(crate) fn moved_gates(
     Ok(sorted)
 }
 
-// The gate of a place, with new variables.
+/// The gate of a place, with new variables.
 fn moved_gate(first: u64, variables: &[u64], gates: &[Gate], place: usize) -> Gate
     requires within { AreWithin first gates.now }
     requires long { length gates.now ≡ length variables.now }

@@ -1,3 +1,4 @@
+//! The names that symbols give.
 ghost use Rattle.std.specs.Prelude.{◌≡◌, IfOk};
 
 use std::alloc::{AllocError, Global};
@@ -18,7 +19,7 @@ impl Model for Name {
 }
 
 impl Name {
-    // The name of these bytes.
+    /// The name of these bytes.
     pub(crate) fn from_bytes(alloc: Global, bytes: &[u8]) -> Result<Name, AllocError>
         ensures { IfOk result (λ n. n ≡ bytes.now) }
     {

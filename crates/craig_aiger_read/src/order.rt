@@ -7,7 +7,7 @@ ghost use Rattle.craig_aiger_read.specs.Ranks.{has_depth, ranks};
 
 use std::alloc::{AllocError, Global};
 
-// A gate and its depth.
+/// A gate and its depth.
 #[derive(Clone, Copy, Drop)]
 struct Ranked {
     depth: u64,
@@ -26,7 +26,7 @@ pub(crate) fn by_depth(alloc: Global, depths: &[Option<u64>]) -> Result<Vec<usiz
     gates_of(alloc, ranked.as_slice())
 }
 
-// The gates with their depths, in their order.
+/// The gates with their depths, in their order.
 fn rank(alloc: Global, depths: &[Option<u64>]) -> Result<Vec<Ranked>, AllocError>
     ensures { IfOk result (λ v. v.items ≡ map (ranks depths.now) (range_with_len 0 (length depths.now))) }
 {
@@ -40,7 +40,7 @@ fn rank(alloc: Global, depths: &[Option<u64>]) -> Result<Vec<Ranked>, AllocError
     Ok(ranked)
 }
 
-// Sorts by depth, and leaves those of one depth in their order.
+/// Sorts by depth, and leaves those of one depth in their order.
 fn sort_by_depth(ranked: &mut Vec<Ranked>) -> Result<(), AllocError>
     ensures sorted { OnOk result (IsNonDecreasingBy (λ r. r.depth) ranked.new.items) }
     ensures stable { OnOk result ((n : ℕ) → filter (has_depth n) ranked.new.items ≡ filter (has_depth n) ranked.old.items) }
@@ -50,7 +50,7 @@ fn sort_by_depth(ranked: &mut Vec<Ranked>) -> Result<(), AllocError>
     Ok(())
 }
 
-// The gates without their depths.
+/// The gates without their depths.
 fn gates_of(alloc: Global, ranked: &[Ranked]) -> Result<Vec<usize>, AllocError>
     ensures { IfOk result (λ v. v.items ≡ map (λ r. r.gate) ranked.now) }
 {

@@ -1,6 +1,6 @@
 //! The reading of a text.
 ghost use Rattle.std.specs.Prelude.{◌≡◌, ◌≤◌, Ok, length, IfErr, IfOk};
-ghost use Rattle.craig_spec.specs.AigerReading.{Written as WrittenText, file_written, aiger_reading};
+ghost use Rattle.craig_spec.specs.AigerReading.{IsDefinedFile, Written as WrittenText, aiger_reading, file_written};
 ghost use Rattle.craig_aiger_read.specs.ReadFaults.{IsFaultOf, IsReadAs};
 ghost use Rattle.craig_aiger_read.specs.ReadFiles.{as_file};
 ghost use Rattle.craig_aiger_read.specs.ReadWritten.{KeepsWritten};
@@ -9,7 +9,7 @@ use crate::assembly::{circuit_with, moves_of, numbered_of};
 use crate::header::header_of;
 use crate::text_line::next_line;
 use crate::written::{Written, read_written};
-use crate::{AigerError, Circuit};
+use crate::{AigerError, Circuit, laws};
 use std::alloc::Global;
 
 /// The circuit that an ASCII AIGER text writes, with its variables numbered anew, or its first fault.
@@ -22,8 +22,10 @@ use std::alloc::Global;
 /// After Biere, Heljanko and Wieringa, AIGER 1.9 and beyond, 2011.
 #[tactic(none)]
 pub fn read(alloc: Global, bytes: &[u8]) -> Result<Circuit, AigerError>
-    ensures { IsReadAs as_file result (aiger_reading bytes.now) }
+    ensures read { IsReadAs as_file result (aiger_reading bytes.now) }
+    ensures defined { IfOk result (λ circuit. IsDefinedFile (as_file circuit)) }
 {
+    laws::files_are_defined();
     let Some((line, rest)) = next_line(bytes) else {
         return Err(AigerError::Header { place: 0 });
     };
@@ -32,7 +34,7 @@ pub fn read(alloc: Global, bytes: &[u8]) -> Result<Circuit, AigerError>
     circuit_of(alloc, written)
 }
 
-// The circuit that is written so.
+/// The circuit that is written so.
 #[tactic(none)]
 fn circuit_of(alloc: Global, written: Written) -> Result<Circuit, AigerError>
     requires few { length written.variables.keys ≤ 1000000000000000001 }
@@ -66,11 +68,11 @@ mod tests {
     const HALF_ADDER: &[u8] =
         b"aag 7 2 0 2 3\n2\n4\n6\n12\n6 13 15\n12 2 4\n14 3 5\ni0 x\ni1 y\no0 s\no1 c\nc\nhalf adder\n";
 
-    // A latch with each reset, a bad literal, gates behind their use, a name that is empty, and no last newline.
+    /// A latch with each reset, a bad literal, gates behind their use, a name that is empty, and no last newline.
     const LATCHES: &[u8] =
         b"aag 9 1 3 1 2 1\n2\n4 12\n6 5 1\n8 9 8\n14\n13\n14 12 5\n12 2 4\ni0 \nl2 x y\nb0 b";
 
-    // Texts, and what is printed of their first faults.
+    /// Texts, and what is printed of their first faults.
     const FAULTS: [(&[u8], &str); 16] = [
         (b"", "byte 0: no header"),
         (b"aig 0 0 0 0 0\n", "byte 0: no header"),
@@ -126,7 +128,7 @@ mod tests {
         ),
     ];
 
-    // Whether the text has a fault, and it prints so.
+    /// Whether the text has a fault, and it prints so.
     fn prints_as(alloc: Global, text: &[u8], message: &str) -> Result<bool, AllocError> {
         match read(alloc, text) {
             Ok(_) => Ok(false),
@@ -134,7 +136,7 @@ mod tests {
         }
     }
 
-    // Whether the name is there and has these bytes.
+    /// Whether the name is there and has these bytes.
     fn is_named(name: &Option<Name>, bytes: &[u8]) -> bool {
         match name {
             Some(name) => name.as_slice() == bytes,
@@ -142,7 +144,7 @@ mod tests {
         }
     }
 
-    // Whether the input at the place has the name.
+    /// Whether the input at the place has the name.
     fn has_input(circuit: &Circuit, place: usize, name: &[u8]) -> bool {
         match circuit.inputs.as_slice().get(place) {
             Some(input) => is_named(input, name),
@@ -150,7 +152,7 @@ mod tests {
         }
     }
 
-    // Whether the root at the place has the literal and the name.
+    /// Whether the root at the place has the literal and the name.
     fn has_root(roots: &Roots, place: usize, literal: u64, name: &[u8]) -> bool {
         match roots.as_slice().get(place) {
             Some(root) => root.literal == literal && is_named(&root.name, name),
@@ -158,12 +160,12 @@ mod tests {
         }
     }
 
-    // Whether the gate at the place has the operands.
+    /// Whether the gate at the place has the operands.
     fn has_gate(circuit: &Circuit, place: usize, left: u64, right: u64) -> bool {
         circuit.gates.as_slice().get(place) == Some(&Gate { left, right })
     }
 
-    // Whether the latch at the place has the next literal and the reset.
+    /// Whether the latch at the place has the next literal and the reset.
     fn has_latch(circuit: &Circuit, place: usize, next: u64, reset: Reset) -> bool {
         match circuit.latches.as_slice().get(place) {
             Some(latch) => latch.next == next && latch.reset == reset,

@@ -1,3 +1,4 @@
+//! How latches start.
 /// How a latch starts.
 #[derive(Clone, Copy, Debug, PartialEq, Eq)]
 pub enum Reset {

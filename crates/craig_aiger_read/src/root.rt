@@ -1,3 +1,4 @@
+//! An output or a bad literal of a circuit.
 use crate::Name;
 
 /// An output or a bad literal of a circuit.

@@ -45,7 +45,7 @@ pub(crate) fn read_roots<'a>(
     Ok((roots, rest))
 }
 
-// The output or bad literal that a line is.
+/// The output or bad literal that a line is.
 fn root_of(counts: &Counts, offset: u64, line: &[u8]) -> Result<RootLine, AigerError>
     ensures { IsReadAs as_root result (root_of (as_counts counts.now) offset (numbers_in line.now)) }
 {

@@ -1,3 +1,4 @@
+//! The outputs or the bad literals of a circuit.
 ghost use Rattle.std.specs.Prelude.{◌≡◌};
 
 use crate::Root;
@@ -19,7 +20,7 @@ impl Model for Roots {
 }
 
 impl Roots {
-    // The list of what is in the vector.
+    /// The list of what is in the vector.
     pub(crate) fn from_vec(items: Vec<Root>) -> Roots
         ensures { result ≡ items.items }
     {

@@ -49,7 +49,7 @@ pub(crate) fn read_symbols(
     Ok(names)
 }
 
-// The first line and what is behind it, where it is before the comments.
+/// The first line and what is behind it, where it is before the comments.
 fn next_symbol(text: &[u8]) -> Option<(&[u8], &[u8])>
     ensures none { IfNone result ((end : ℕ) → length text.now ≤ end → take_while is_before_comments (lines_at end text.now) ≡ []) }
     ensures some { IfSome result (λ cut. IsFirstLine text.now cut.0.now cut.1.now) }
@@ -63,14 +63,14 @@ fn next_symbol(text: &[u8]) -> Option<(&[u8], &[u8])>
     }
 }
 
-// Whether the line is the first of the comments.
+/// Whether the line is the first of the comments.
 fn opens_comments(line: &[u8]) -> bool
     ensures { result ≡ (slice_index line.now 0 == 99) }
 {
     line.first() == Some(&b'c')
 }
 
-// A table of so many things without names.
+/// A table of so many things without names.
 fn no_names(alloc: Global, counts: &Counts) -> Result<NameTable, AllocError>
     ensures { IfOk result (λ names. HasNames (as_counts counts.now) [] names) }
 {
@@ -86,7 +86,7 @@ fn no_names(alloc: Global, counts: &Counts) -> Result<NameTable, AllocError>
     })
 }
 
-// So many things without names.
+/// So many things without names.
 fn unnamed(alloc: Global, count: u64) -> Result<Vec<Option<Name>>, AllocError>
     ensures { IfOk result (λ names. names.items ≡ replicate count None) }
 {
@@ -97,7 +97,7 @@ fn unnamed(alloc: Global, count: u64) -> Result<Vec<Option<Name>>, AllocError>
     Ok(names)
 }
 
-// Adds the name that a symbol gives.
+/// Adds the name that a symbol gives.
 fn add_symbol(
     alloc: Global,
     names: &mut NameTable,
@@ -121,7 +121,7 @@ fn add_symbol(
     }
 }
 
-// Gives the thing at the position the name, if there is one without a name.
+/// Gives the thing at the position the name, if there is one without a name.
 fn give_name(
     alloc: Global,
     names: &mut Vec<Option<Name>>,
@@ -140,7 +140,7 @@ fn give_name(
     Ok(())
 }
 
-// The letter, the position and the name of the symbol that a line is.
+/// The letter, the position and the name of the symbol that a line is.
 fn symbol_in_line(line: &[u8]) -> Option<(u8, u64, &[u8])>
     ensures { option_map (λ x. record { letter = x.0; position = x.1; name = x.2.now }) result ≡ symbol_of line.now }
 {

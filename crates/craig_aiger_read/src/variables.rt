@@ -107,7 +107,7 @@ pub(crate) fn number_gates(
     Ok(numbered)
 }
 
-// The operands of a gate, with the numbers of their variables.
+/// The operands of a gate, with the numbers of their variables.
 fn number_gate(variables: &IndexSet<u64>, gate: &GateLine) -> Option<Gate>
     requires { length variables.now.keys ≤ 1000000000000000001 }
     ensures gate { option_map as_operands result ≡ (if uses_other variables.now.keys (gate_use (as_gate gate.now)) then None else Some (numbered_gate variables.now.keys gate.now)) }

@@ -3,7 +3,7 @@
 --
 -- After Biere, Heljanko and Wieringa, AIGER 1.9 and beyond, 2011. A text has a header, one line for each input,
 -- latch, output, bad literal and gate, and then symbols and comments. What is read has its variables numbered anew.
-use Rattle.std.specs.Prelude.{ℕ, zero, suc, ◌+◌, ◌-◌, ◌*◌, ◌/◌, ◌%◌, Bool, true, false, not, ◌&&◌, ◌==◌, nat_eq, nat_le, nat_lt, max, List, [], ◌∷◌, ◌++◌, length, take, drop, map, find, filter, take_while, slice_get, slice_index, slice_index_or, Option, Some, None, Result, Ok, Err, codes, is_none, if◌then◌else◌}
+use Rattle.std.specs.Prelude.{◌≡◌, ℕ, zero, suc, ◌+◌, ◌-◌, ◌*◌, ◌/◌, ◌%◌, ◌<◌, All, Bool, true, false, not, ◌&&◌, ◌==◌, nat_eq, nat_le, nat_lt, max, List, [], ◌∷◌, ◌++◌, length, take, drop, map, find, filter, take_while, slice_get, slice_index, slice_index_or, Option, Some, None, Result, Ok, Err, codes, is_none, if◌then◌else◌}
 use Rattle.std.specs.Option.{option_map}
 use Rattle.std.specs.List.{before_first, after_first, enumerate_from, flat_map, list_all, list_any, position_or_len, range_with_len, slice_split}
 use Rattle.std.specs.Char.{is_ascii_digit}
@@ -348,6 +348,21 @@ pub record AigerFile : Type 0 where
   pub outputs : List FileRoot
   pub bads : List FileRoot
   pub gates : List Gate
+
+-- the number of variables of a file, the constant counted in
+abbrev pub file_variables : AigerFile → ℕ
+file_variables f = 1 + length f.inputs + length f.latches + length f.gates
+
+-- no gate stands before one that it uses, and whatever is used is there
+pub record IsDefinedFile (f : AigerFile) : Type 0 where
+  -- each gate has operands below its own variable
+  pub operands : (j : ℕ) (g : Gate) → slice_get f.gates j ≡ Some g → (g.left / 2 < 1 + length f.inputs + length f.latches + j) × (g.right / 2 < 1 + length f.inputs + length f.latches + j)
+  -- each latch goes on with a literal of the file
+  pub nexts : All (λ l. l.next / 2 < file_variables f) f.latches
+  -- each output is a literal of the file
+  pub outputs : All (λ r. r.literal / 2 < file_variables f) f.outputs
+  -- and so is each bad literal
+  pub bads : All (λ r. r.literal / 2 < file_variables f) f.bads
 
 -- the name of the thing of the kind at the position
 abbrev pub name_of : List Symbol → ℕ → ℕ → Option (List ℕ)

@@ -1,8 +1,11 @@
--- Laws of the depths of gates.
-use Rattle.std.proofs.Common.{◌≡◌, ℕ, zero, suc, ◌+◌, ◌-◌, ◌/◌, ◌<◌, ◌≤◌, false, max, ltb, List, length, get_or, slice_get, Option, Some, None, ◌⊎◌, inl, inr, refl, sym, ◌∙◌, ap, arith}
+-- The depths of gates: one more than those of their operands, which circles have none of.
+use Rattle.std.proofs.Common.{◌≡◌, ℕ, zero, suc, ◌+◌, ◌-◌, ◌/◌, ◌<◌, ◌≤◌, Bool, true, false, cond, max, ltb, List, [], ◌∷◌, length, get_or, slice_get, Option, Some, None, ◌⊎◌, inl, inr, refl, sym, ◌∙◌, ap, arith}
 use Rattle.std.proofs.lemmas.Bool.Decides.{nat_tests}
+use Rattle.std.proofs.lemmas.Option.{same_Some, slice_get-get_or}
 use Rattle.std.specs.Option.{option_map}
-use Rattle.craig_spec.specs.AigerReading.{deeper, depth, depth_by, gate_at, gate_depth}
+use Rattle.std.specs.Prelude.{find, is_none}
+use Rattle.std.specs.List.{enumerate_from}
+use Rattle.craig_spec.specs.AigerReading.{GateLine, deeper, depth, depth_by, first_cyclic, gate_at, gate_depth}
 use Rattle.craig_spec.specs.Circuit.{Gate}
 
 -- where there is a greater depth there are both
@@ -13,9 +16,6 @@ both-deep None b d e = cc
 
 deep-is : (a b : Option ℕ) (m n d : ℕ) → a ≡ Some m → b ≡ Some n → d ≡ suc (max m n) → option_map suc (deeper a b) ≡ Some d
 deep-is a b m n d e h is = rw (e, h, is) refl
-
-some-same : (x y : ℕ) → ◌≡◌ {A = Option ℕ} (Some x) (Some y) → x ≡ y
-some-same x y e = cc
 
 -- the depth at each number of steps, by what the variable is
 at-zero : (first : ℕ) (gates : List Gate) (v : ℕ) (o : Option Gate) → gate_at first gates v ≡ o → depth first gates zero v ≡ depth_by (λ l. None) o
@@ -50,7 +50,7 @@ gate-parts first gates (suc n) v d g e h =
 depth-le-by : (first : ℕ) (gates : List Gate) (n v d : ℕ) (o : Option Gate) → gate_at first gates v ≡ o → depth first gates n v ≡ Some d →
     ((m w e : ℕ) → n ≡ suc m → depth first gates m w ≡ Some e → e ≤ m) → d ≤ n
 depth-le-by first gates n v d None e h rec =
-    let z : 0 ≡ d = some-same 0 d (sym (leaf-depth first gates n v e) ∙ h) in omega arith
+    let z : 0 ≡ d = same_Some 0 d (sym (leaf-depth first gates n v e) ∙ h) in omega arith
 depth-le-by first gates n v d (Some g) e h rec =
     let p : GateDepth first gates n d g = gate-parts first gates n v d g e h in
     omega (arith, p.steps, p.depth_is, rec p.before (g.left / 2) p.left p.steps p.left_is, rec p.before (g.right / 2) p.right p.steps p.right_is)
@@ -77,6 +77,14 @@ depth-more first gates zero m v d h low = more-by first gates zero m v d (gate_a
 depth-more first gates (suc n) m v d h low =
     more-by first gates (suc n) m v d (gate_at first gates v) refl h low
     (λ n' m' w e same h2 low2. let k : n ≡ n' = omega arith in depth-more first gates n m' w e (ap (λ z. depth first gates z w) k ∙ h2) low2)
+
+-- a gate that is found by its variable
+gate_at-by : (first : ℕ) (gates : List Gate) (v : ℕ) (g : Gate) (t : Bool) → ltb v first ≡ t → gate_at first gates v ≡ Some g → (first ≤ v) × (slice_get gates (v - first) ≡ Some g)
+gate_at-by first gates v g true e is = absurd (let n : None ≡ Some g = sym (ap (λ (b : Bool). cond b None (slice_get gates (v - first))) e) ∙ is in cc)
+gate_at-by first gates v g false e is = (grind (arith, nat_tests, e), sym (ap (λ (b : Bool). cond b None (slice_get gates (v - first))) e) ∙ is)
+
+gate_at-parts : (first : ℕ) (gates : List Gate) (v : ℕ) (g : Gate) → gate_at first gates v ≡ Some g → (first ≤ v) × (slice_get gates (v - first) ≡ Some g)
+gate_at-parts first gates v g is = gate_at-by first gates v g (ltb v first) refl is
 
 -- the gate at a place
 pub gate_at-place : (first : ℕ) (gates : List Gate) (j : ℕ) (g : Gate) → slice_get gates j ≡ Some g → gate_at first gates (first + j) ≡ Some g
@@ -141,3 +149,72 @@ path-falls first gates stack n i (suc m) d h inside e =
     let rest = path-falls first gates stack n (i + 1) m o.0 h (omega arith) o.1 in
     let same : i + 1 + m ≡ i + suc m = omega arith in
     (rest.0, ap (λ z. depth first gates n (first + get_or stack z 0)) (sym same) ∙ rest.1, omega (arith, rest.2, o.2))
+
+-- each gate stands after its operands, where the gates have the variables from the first one on
+abbrev pub InOrder : ℕ → List Gate → Type 0
+InOrder first gates = (j : ℕ) (g : Gate) → slice_get gates j ≡ Some g → (g.left / 2 < first + j) × (g.right / 2 < first + j)
+
+-- each gate has a depth
+abbrev pub HaveDepths : ℕ → List Gate → Type 0
+HaveDepths first gates = (j : ℕ) → j < length gates → (d : ℕ) × (gate_depth first gates j ≡ Some d)
+
+-- the variable of a gate that stands in order has a depth, where those of its operands have
+ordered-by : (first : ℕ) (gates : List Gate) (most v : ℕ) (o : Option Gate) → gate_at first gates v ≡ o → InOrder first gates → v < first + suc most → ((w : ℕ) → w < first + most → (d : ℕ) × (depth first gates most w ≡ Some d)) →
+    (d : ℕ) × (depth first gates (suc most) v ≡ Some d)
+ordered-by first gates most v None e order within below = (0, leaf-depth first gates (suc most) v e)
+ordered-by first gates most v (Some g) e order within below =
+    let p = gate_at-parts first gates v g e in
+    let o = order (v - first) g p.1 in
+    let l = below (g.left / 2) (omega (arith, o.0, p.0)) in
+    let r = below (g.right / 2) (omega (arith, o.1, p.0)) in
+    (suc (max l.0 r.0), at-suc first gates most v (Some g) e ∙ deep-is (depth first gates most (g.left / 2)) (depth first gates most (g.right / 2)) l.0 r.0 (suc (max l.0 r.0)) l.1 r.1 refl)
+
+ordered-depth : (first : ℕ) (gates : List Gate) (most v : ℕ) → InOrder first gates → v < first + most → (d : ℕ) × (depth first gates most v ≡ Some d)
+ordered-depth first gates zero v order within =
+    let test : ltb v first ≡ true = grind (arith, nat_tests, within) in
+    (0, leaf-depth first gates zero v (rw test refl))
+ordered-depth first gates (suc most) v order within = ordered-by first gates most v (gate_at first gates v) refl order within (λ w low. ordered-depth first gates most w order low)
+
+-- gates that stand each after its operands have depths
+pub HaveDepths-ordered : (first : ℕ) (gates : List Gate) → InOrder first gates → HaveDepths first gates
+unfolding gate_depth
+HaveDepths-ordered first gates order j inside = ordered-depth first gates (length gates) (first + j) order (omega (arith, inside))
+
+some-of : (o : Option ℕ) → is_none o ≡ false → (d : ℕ) × (o ≡ Some d)
+some-of None e = cc
+some-of (Some d) e = (d, refl)
+
+none-of : (o : Option ℕ) (d : ℕ) → o ≡ Some d → is_none o ≡ false
+none-of o d e = rw e refl
+
+some-none : {A : Type 0} (x : A) → ◌≡◌ {A = Option A} (Some x) None → ⊥
+some-none x e = cc
+
+-- whether the gate at the place of a line has no depth
+abbrev pub is_deepless : ℕ → List Gate → ℕ × GateLine → Bool
+is_deepless first gates p = is_none (gate_depth first gates p.0)
+
+acyclic-by : (first : ℕ) (gates : List Gate) (line : GateLine) (lines : List GateLine) (a j : ℕ) (t : Bool) → is_none (gate_depth first gates a) ≡ t →
+    cond t (Some (a, line)) (find (is_deepless first gates) (enumerate_from (a + 1) lines)) ≡ None → j < suc (length lines) →
+    ((k : ℕ) → find (is_deepless first gates) (enumerate_from (a + 1) lines) ≡ None → k < length lines → is_none (gate_depth first gates (a + 1 + k)) ≡ false) →
+    is_none (gate_depth first gates (a + j)) ≡ false
+acyclic-by first gates line lines a j true e h inside rec = absurd (some-none (a, line) h)
+acyclic-by first gates line lines a zero false e h inside rec = ap (λ z. is_none (gate_depth first gates z)) (omega arith) ∙ e
+acyclic-by first gates line lines a (suc k) false e h inside rec = ap (λ z. is_none (gate_depth first gates z)) (omega arith) ∙ rec k h (omega arith)
+
+acyclic-from : (first : ℕ) (gates : List Gate) (lines : List GateLine) (a j : ℕ) → find (is_deepless first gates) (enumerate_from a lines) ≡ None → j < length lines → is_none (gate_depth first gates (a + j)) ≡ false
+acyclic-from first gates [] a j h inside = absurd (omega arith)
+acyclic-from first gates (line ∷ lines) a j h inside = acyclic-by first gates line lines a j (is_none (gate_depth first gates a)) refl h inside (λ k e low. acyclic-from first gates lines (a + 1) k e low)
+
+-- where no line is of a gate without a depth, each gate has one
+pub HaveDepths-found : (first : ℕ) (gates : List Gate) (lines : List GateLine) → length gates ≡ length lines → find (is_deepless first gates) (enumerate_from 0 lines) ≡ None → HaveDepths first gates
+HaveDepths-found first gates lines beside h j inside =
+    let place : 0 + j ≡ j = omega arith in
+    some-of (gate_depth first gates j) (ap (λ z. is_none (gate_depth first gates z)) (sym place) ∙ acyclic-from first gates lines 0 j h (omega (arith, inside, beside)))
+
+-- and the other way round
+pub HaveDepths-none : (first k : ℕ) (gates : List Gate) (lines : List GateLine) → HaveDepths first gates → k + length lines ≤ length gates → find (is_deepless first gates) (enumerate_from k lines) ≡ None
+HaveDepths-none first k gates [] depths h = refl
+HaveDepths-none first k gates (line ∷ lines) depths h =
+    let d = depths k (omega arith) in
+    rw (none-of (gate_depth first gates k) d.0 d.1) (HaveDepths-none first (k + 1) gates lines depths (omega arith))

@@ -2,6 +2,8 @@
 use Rattle.std.proofs.Common.{◌≡◌, ℕ, zero, suc, ◌+◌, ◌<◌, ◌≤◌, Bool, true, false, ◌&&◌, ◌||◌, eqb, eqb-true, eq-eqb, nat_lt, List, [], ◌∷◌, ◌++◌, length, get_or, refl, sym, ap, ◌∙◌, length-append, arith}
 use native.Mathlib.Decide.{dec_lt}
 use Rattle.std.specs.List.{filter, flat_map, list_any, list_all, range_with_len}
+use Rattle.std.proofs.Math.Bool.{and-false, and-true}
+use Rattle.std.proofs.lemmas.Bool.{and_parts, or_parts, or_right}
 use Rattle.std.proofs.lemmas.Bool.Decides.{nat_tests}
 use Rattle.std.proofs.lemmas.List.Folds.{list_all-append}
 use Rattle.std.proofs.lemmas.List.Sums.{fails_before_first}
@@ -12,9 +14,9 @@ abbrev pub has : List ℕ → ℕ → Bool
 has xs j = list_any (eqb j) xs
 
 -- where a number of the first part stands
-record InFirst (xs ys : List ℕ) (j : ℕ) : Type 0 where
-  same : place_in (xs ++ ys) j ≡ place_in xs j
-  within : place_in xs j < length xs
+pub record InFirst (xs ys : List ℕ) (j : ℕ) : Type 0 where
+  pub same : place_in (xs ++ ys) j ≡ place_in xs j
+  pub within : place_in xs j < length xs
 
 in_first_by : (x : ℕ) (xs ys : List ℕ) (j : ℕ) (t : Bool) → eqb j x ≡ t → (t || has xs j) ≡ true → (has xs j ≡ true → InFirst xs ys j) → InFirst (x ∷ xs) ys j
 in_first_by x xs ys j true e some rest = record { same = rw e refl; within = rw e (omega arith) }
@@ -22,19 +24,16 @@ in_first_by x xs ys j false e some rest =
     let r : InFirst xs ys j = rest some in
     record { same = rw e (ap (λ n. 1 + n) r.same); within = rw e (omega (arith, r.within)) }
 
-in_first : (xs ys : List ℕ) (j : ℕ) → has xs j ≡ true → InFirst xs ys j
+-- what is in the first part is found there
+pub in_first : (xs ys : List ℕ) (j : ℕ) → has xs j ≡ true → InFirst xs ys j
 in_first [] ys j e = absurd cc
 in_first (x ∷ xs) ys j e = in_first_by x xs ys j (eqb j x) refl e (in_first xs ys j)
-
-neither : (a b : Bool) → (a || b) ≡ false → (a ≡ false) × (b ≡ false)
-neither true b e = absurd cc
-neither false b e = (refl, e)
 
 -- where a number stands that is not in the first part
 past_first : (xs ys : List ℕ) (j : ℕ) → has xs j ≡ false → place_in (xs ++ ys) j ≡ length xs + place_in ys j
 past_first [] ys j e = omega arith
 past_first (x ∷ xs) ys j e =
-    let n = neither (eqb j x) (has xs j) e in
+    let n = or_parts (eqb j x) (has xs j) e in
     rw (n.0) (omega (arith, past_first xs ys j n.1))
 
 at_place_by : (x : ℕ) (xs : List ℕ) (j : ℕ) (t : Bool) → eqb j x ≡ t → place_in (x ∷ xs) j < length (x ∷ xs) → (place_in xs j < length xs → get_or xs (place_in xs j) 0 ≡ j) → get_or (x ∷ xs) (place_in (x ∷ xs) j) 0 ≡ j
@@ -56,18 +55,6 @@ first_place xs p within =
       | Prim.no not_early ↦ (let n : p < place_in xs (get_or xs p 0) → ⊥ = not_early in omega arith)
     ]
 
-and_true : (b : Bool) → (b && true) ≡ b
-and_true true = refl
-and_true false = refl
-
-and_false : (b : Bool) → (b && false) ≡ false
-and_false true = refl
-and_false false = refl
-
-or_true : (a b : Bool) → b ≡ true → (a || b) ≡ true
-or_true true b e = refl
-or_true false b e = e
-
 apart : (m n : ℕ) → n < m → eqb m n ≡ false
 apart m n h = grind (arith, nat_tests, h)
 
@@ -82,14 +69,14 @@ has-filter_by test x xs j t false true e f g rest =
 has-filter_by test x xs j t false false e f g rest = rw (f, g) rest
 
 has-filter : (test : ℕ → Bool) (xs : List ℕ) (j : ℕ) (t : Bool) → test j ≡ t → has (filter test xs) j ≡ (t && has xs j)
-has-filter test [] j t e = sym (and_false t)
+has-filter test [] j t e = sym (and-false t)
 has-filter test (x ∷ xs) j t e = has-filter_by test x xs j t (test x) (eqb j x) e refl refl (has-filter test xs j t e)
 
 pub has-range : (a n j : ℕ) → a ≤ j → j < a + n → has (range_with_len a n) j ≡ true
 has-range a zero j low high = absurd (omega arith)
 has-range a (suc n) j low high =
     elim (dec_lt a j) [
-      | Prim.yes above ↦ or_true (eqb j a) (has (range_with_len (a + 1) n) j) (has-range (a + 1) n j (omega (arith, above)) (omega arith))
+      | Prim.yes above ↦ or_right (eqb j a) (has (range_with_len (a + 1) n) j) (has-range (a + 1) n j (omega (arith, above)) (omega arith))
       | Prim.no not_above ↦ (let not_lt : a < j → ⊥ = not_above in let e : eqb j a ≡ true = eq-eqb j a (omega arith) in rw e refl)
     ]
 
@@ -106,18 +93,10 @@ all-range : (p : ℕ → Bool) (a n : ℕ) → ((j : ℕ) → a ≤ j → j < a 
 all-range p a zero h = refl
 all-range p a (suc n) h = let here : p a ≡ true = h a (omega arith) (omega arith) in rw here (all-range p (a + 1) n (λ j low high. h j (omega arith) (omega arith)))
 
-both_first : (a b : Bool) → (a && b) ≡ true → a ≡ true
-both_first true b e = refl
-both_first false b e = e
-
-both_second : (a b : Bool) → (a && b) ≡ true → b ≡ true
-both_second true b e = e
-both_second false b e = absurd cc
-
 element : (p : ℕ → Bool) (xs : List ℕ) (i : ℕ) → list_all p xs ≡ true → i < length xs → p (get_or xs i 0) ≡ true
 element p [] i e within = absurd (omega arith)
-element p (x ∷ xs) zero e within = both_first (p x) (list_all p xs) e
-element p (x ∷ xs) (suc i) e within = element p xs i (both_second (p x) (list_all p xs) e) (omega arith)
+element p (x ∷ xs) zero e within = (and_parts (p x) (list_all p xs) e).0
+element p (x ∷ xs) (suc i) e within = element p xs i ((and_parts (p x) (list_all p xs) e).1) (omega arith)
 
 -- numbers below a bound by rising depth, where the test says which have a depth
 module _ (bound : ℕ) (test : ℕ → ℕ → Bool) (deep : ℕ → ℕ) (tests : (n j : ℕ) → j < bound → test n j ≡ eqb (deep j) n) where
@@ -129,7 +108,7 @@ module _ (bound : ℕ) (test : ℕ → ℕ → Bool) (deep : ℕ → ℕ) (tests
   ordered_from a n = flat_map (λ m. filter (test m) (range_with_len 0 bound)) (range_with_len a n)
 
   has-level : (n j : ℕ) → j < bound → has (level n) j ≡ eqb (deep j) n
-  has-level n j within = has-filter (test n) (range_with_len 0 bound) j (eqb (deep j) n) (tests n j within) ∙ ap (λ b. eqb (deep j) n && b) (has-range 0 bound j (omega arith) (omega arith)) ∙ and_true (eqb (deep j) n)
+  has-level n j within = has-filter (test n) (range_with_len 0 bound) j (eqb (deep j) n) (tests n j within) ∙ ap (λ b. eqb (deep j) n && b) (has-range 0 bound j (omega arith) (omega arith)) ∙ and-true (eqb (deep j) n)
 
   -- each stands somewhere
   pub ordered_within : (a n j : ℕ) → j < bound → a ≤ deep j → deep j < a + n → place_in (ordered_from a n) j < length (ordered_from a n)

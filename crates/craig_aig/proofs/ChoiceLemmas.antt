@@ -1,5 +1,5 @@
 -- Disjunctions and choices that are built from conjunctions.
-use Rattle.std.proofs.Common.{◌≡◌, ◌⊎◌, inl, inr, ℕ, ◌<◌, Bool, true, false, not, cond, ◌&&◌, ◌||◌, List, ◌++◌, length, Contains, refl, ap, ◌∙◌, subst, append_assoc}
+use Rattle.std.proofs.Common.{◌≡◌, ◌⊎◌, inl, inr, ℕ, ◌<◌, Bool, true, false, not, cond, ◌&&◌, ◌||◌, List, length, Contains, refl, ap, ◌∙◌, subst}
 use Rattle.craig_spec.specs.Truth.{Assignment}
 use Rattle.craig_aig.specs.Cones.{cone, ConeWithin}
 use Rattle.craig_aig.specs.Edges.{Edge}
@@ -7,10 +7,6 @@ use Rattle.craig_aig.specs.Growth.{Extends}
 use Rattle.craig_aig.specs.Values.{edge_value}
 use Rattle.craig_aig.specs.declared.node.Node.{Node}
 use Rattle.craig_aig.proofs.ConjunctionLemmas.{kept_value, kept_cone}
-
--- an arena that grows twice has grown
-pub Extends-trans : (a b c : List Node) → Extends a b → Extends b c → Extends a c
-Extends-trans a b c (x, p) (y, q) = (x ++ y, q ∙ ap (λ l. l ++ y) p ∙ append_assoc a x y)
 
 -- the negations of edges reach what the edges reach
 pub ConeWithin-equal : (old : List Node) (left right nleft nright : Edge) (new : List Node) (e ne : Edge) → cone old nleft ≡ cone old left → cone old nright ≡ cone old right → cone new ne ≡ cone new e →

@@ -1,17 +1,18 @@
 -- Values and cones of edges: those of nodes by their operands, and what an arena that grows keeps.
-use Rattle.std.proofs.Common.{◌≡◌, ℕ, ◌<◌, ◌≤◌, Bool, true, false, not, cond, ◌&&◌, List, [], ◌++◌, length, get_or, take, Some, slice_get, refl, sym, ap, ◌∙◌, arith}
+use Rattle.std.proofs.Common.{◌≡◌, ℕ, ◌<◌, ◌≤◌, Bool, false, not, cond, ◌&&◌, List, [], ◌++◌, length, get_or, take, Some, slice_get, refl, sym, ap, ◌∙◌, arith}
 use Rattle.std.proofs.lemmas.List.{length-take-le}
 use Rattle.std.proofs.lemmas.Option.{slice_get_within, get_or_from_slice_get}
 use Rattle.std.proofs.Common.{subst}
 use Rattle.craig_spec.specs.Truth.{Assignment}
 use Rattle.craig_aig.specs.Arenas.{IsPlaced, IsAig}
 use Rattle.craig_aig.specs.Cones.{node_cone, cones, cone}
-use Rattle.craig_aig.specs.Edges.{Edge, negation, plain_edge}
+use Rattle.craig_aig.specs.Edges.{Edge, edge_negation, plain_edge}
 use Rattle.craig_aig.specs.Growth.{Extends, KeepsEdge, KeepsEdges}
 use Rattle.craig_aig.specs.Values.{edge_value_in, node_value, values, edge_value}
 use Rattle.craig_aig.specs.declared.node.Node.{Node}
 use Rattle.craig_aig.specs.declared.node.Node.TheVariants.{Constant, Input, Gate}
 use Rattle.craig_aig.proofs.FromFrontLemmas.{get_or-from_front_append, get_or-from_front_take, get_or-from_front}
+use Rattle.craig_aig.proofs.SignLemmas.{cond-negated}
 
 -- an edge has the value of its node, or the other one
 edge_value_in-equal : (v w : List Bool) (e : Edge) → get_or v e.place false ≡ get_or w e.place false → edge_value_in v e ≡ edge_value_in w e
@@ -68,14 +69,9 @@ cone-node nodes i n h at =
     let front : get_or (cones nodes) i [] ≡ node_cone (cones (take i nodes)) (get_or nodes i n) = get_or-from_front node_cone nodes i [] n within in
     front ∙ ap (node_cone (cones (take i nodes))) (get_or_from_slice_get nodes i n n at) ∙ node_cone-placed nodes i n (omega arith) (placed_at nodes i n h at)
 
-negated_value : (n b : Bool) → cond (not n) (not b) b ≡ not (cond n (not b) b)
-negated_value true true = refl
-negated_value true false = refl
-negated_value false b = refl
-
 -- the negation of an edge has the other value
-pub edge_value-negation : (s : Assignment) (nodes : List Node) (e : Edge) → edge_value s nodes (negation e) ≡ not (edge_value s nodes e)
-edge_value-negation s nodes e = negated_value e.negated (get_or (values s nodes) e.place false)
+pub edge_value-negation : (s : Assignment) (nodes : List Node) (e : Edge) → edge_value s nodes (edge_negation e) ≡ not (edge_value s nodes e)
+edge_value-negation s nodes e = cond-negated e.negated (get_or (values s nodes) e.place false)
 
 pub KeepsEdges-take : (old new : List Node) (n : ℕ) → new ≡ take n old → n ≤ length old → KeepsEdges old new
 KeepsEdges-take old new n e within = λ edge _ below.

@@ -1,11 +1,14 @@
-mod FromFrontLemmas
-mod FunctionLemmas
 mod ArenaLemmas
 mod ChoiceLemmas
 mod ConjunctionLemmas
 mod ConstantLemmas
+mod DependenceLemmas
+mod FromFrontLemmas
+mod FunctionLemmas
+pub mod GrowthLemmas
+mod KnownLemmas
 mod NodeLemmas
 mod ShareLemmas
+pub mod SignLemmas
 mod TrueVariablesLemmas
 mod ValuesLemmas
-mod DependenceLemmas

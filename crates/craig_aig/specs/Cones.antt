@@ -22,3 +22,7 @@ cone nodes e = slice_index_or (cones nodes) e.place []
 -- what the edge reaches in the new arena was reached by one of the two in the old one
 abbrev pub ConeWithin : List Node → Edge → Edge → List Node → Edge → Type 0
 ConeWithin old left right new e = (x : ℕ) → Contains (cone new e) x → Contains (cone old left) x ⊎ Contains (cone old right) x
+
+-- what the edge reaches in the new arena was reached by one of the three in the old one
+abbrev pub ChoiceConeWithin : List Node → Edge → Edge → Edge → List Node → Edge → Type 0
+ChoiceConeWithin old select when_true when_false new e = (x : ℕ) → Contains (cone new e) x → Contains (cone old select) x ⊎ Contains (cone old when_true) x ⊎ Contains (cone old when_false) x

@@ -3,7 +3,9 @@ use Rattle.std.specs.Prelude.{ℕ, ◌+◌, ◌*◌, ◌/◌, ◌%◌, Bool, fal
 
 -- the node at the place, or its negation
 pub record Edge : Type 0 where
+  -- the place of the node, from 0
   pub place : ℕ
+  -- whether it is the negation
   pub negated : Bool
 
 -- the edge of a node
@@ -11,8 +13,8 @@ abbrev pub plain_edge : ℕ → Edge
 plain_edge place = record { place = place; negated = false }
 
 -- the edge that is true exactly where this one is false
-abbrev pub negation : Edge → Edge
-negation e = record { place = e.place; negated = not e.negated }
+abbrev pub edge_negation : Edge → Edge
+edge_negation e = record { place = e.place; negated = not e.negated }
 
 -- twice the place, and one more for the negation
 abbrev pub edge_code : Edge → ℕ

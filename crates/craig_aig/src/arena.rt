@@ -1,11 +1,14 @@
-ghost use Rattle.std.specs.Prelude.{◌≡◌, ◌+◌, ◌<◌, ◌≤◌, ◌⊎◌, ◌&&◌, ◌||◌, false, [], ◌∷◌, ℕ, List, length, take, Some, slice_get, Contains, IfOk, OnErr, if◌then◌else◌, not};
+//! An arena of nodes, each above its operands, where equal nodes are found again by their hash: structural hashing
+//! and the folding of trivial conjunctions after Kuehlmann, Paruthi, Krohm and Ganai, TCAD 2002. The order of operands,
+//! the greater first, is that of Biere's AIGER format (2006).
+ghost use Rattle.std.specs.Prelude.{◌≡◌, ◌+◌, ◌<◌, ◌≤◌, [], ◌∷◌, List, length, take, Some, slice_get, Contains, IfOk, IsOk, OnErr, not};
 ghost use Rattle.craig_spec.specs.Truth.{Assignment, variable_value};
 ghost use Rattle.craig_aig.specs.Arenas.{IsAig, IsPlaced};
-ghost use Rattle.craig_aig.specs.Cones.{cone, ConeWithin};
-ghost use Rattle.craig_aig.specs.Conjunctions.{constant_edge, gate, IsConjunction};
-ghost use Rattle.craig_aig.specs.Edges.{Edge, negation};
-ghost use Rattle.craig_aig.specs.Growth.{Extends, KeepsEdges, IsShared};
-ghost use Rattle.craig_aig.specs.Values.{edge_value, true_variables};
+ghost use Rattle.craig_aig.specs.Cones.{cone, ChoiceConeWithin, ConeWithin};
+ghost use Rattle.craig_aig.specs.Conjunctions.{constant_edge, IsConjunction, IsKnownChoice, IsKnownConjunction};
+ghost use Rattle.craig_aig.specs.Edges.{Edge, edge_negation};
+ghost use Rattle.craig_aig.specs.Growth.{ArenaGrows, Extends, IsShared, KeepsEdges};
+ghost use Rattle.craig_aig.specs.Values.{edge_value, ComputesAnd, ComputesChoice, ComputesOr, true_variables};
 
 use crate::conjunction::{fold, make_gate};
 use crate::value::{value_in, values_of};
@@ -61,7 +64,7 @@ impl Aig {
 
     /// The edge that is true exactly where this one is false. It is of the arenas that the given edge is of.
     pub fn not(edge: Edge) -> Edge
-        ensures edge { result ≡ negation edge }
+        ensures edge { result ≡ edge_negation edge }
         ensures computes { (s : Assignment) (nodes : List Node) → edge_value s nodes result ≡ not (edge_value s nodes edge) }
         ensures cone { (nodes : List Node) → cone nodes result ≡ cone nodes edge }
     {
@@ -88,14 +91,15 @@ impl Aig {
         }
     }
 
-    // The edge of a node that is not the constant: where it stands, or else it is added at the end.
-    // After an error the nodes are as before.
+    /// The edge of a node that is not the constant: where it stands, or else it is added at the end.
+    /// After an error, which only a new node meets, the nodes are as before.
     fn share(&mut self, node: Node) -> Result<Edge, AllocError>
         requires placed { IsPlaced (length self.old) node }
         ensures shared { IfOk result (IsShared self.old node self.new) }
         ensures extends { Extends self.old self.new }
         ensures count { length self.new ≤ length self.old + 1 }
         ensures is_arena { IsAig self.new }
+        ensures known { Contains self.old node → IsOk result }
         ensures unchanged { OnErr result (self.new ≡ self.old) }
     {
         let (index, _) = self.nodes.insert_full(node)?;
@@ -111,10 +115,9 @@ impl Aig {
         ensures within { IfOk result (λ e. e.place < length self.new) }
         ensures computes { IfOk result (λ e. (s : Assignment) → edge_value s self.new e ≡ variable_value s var.0) }
         ensures cone { IfOk result (λ e. cone self.new e ≡ var.0 ∷ []) }
-        ensures extends { Extends self.old self.new }
+        ensures grows { ArenaGrows self.old self.new }
         ensures count { length self.new ≤ length self.old + 1 }
-        ensures kept { KeepsEdges self.old self.new }
-        ensures is_arena { IsAig self.new }
+        ensures known { Contains self.old (Node.Input var) → IsOk result }
         ensures unchanged { OnErr result (self.new ≡ self.old) }
     {
         // What holds of each arena is known from here on.
@@ -130,12 +133,11 @@ impl Aig {
         requires right { right.place < length self.old }
         ensures conjunction { IfOk result (IsConjunction self.old left right self.new) }
         ensures within { IfOk result (λ e. e.place < length self.new) }
-        ensures computes { IfOk result (λ e. (s : Assignment) → edge_value s self.new e ≡ (edge_value s self.old left && edge_value s self.old right)) }
+        ensures computes { IfOk result (ComputesAnd self.old left right self.new) }
         ensures cone { IfOk result (ConeWithin self.old left right self.new) }
-        ensures extends { Extends self.old self.new }
+        ensures grows { ArenaGrows self.old self.new }
         ensures count { length self.new ≤ length self.old + 1 }
-        ensures kept { KeepsEdges self.old self.new }
-        ensures is_arena { IsAig self.new }
+        ensures known { IsKnownConjunction self.old left right → IsOk result }
         ensures unchanged { OnErr result (self.new ≡ self.old) }
     {
         // What holds of each arena is known from here on.
@@ -147,18 +149,17 @@ impl Aig {
     }
 
     /// The disjunction of two edges of this arena: the negation of the conjunction of their negations.
-    /// After an error the arena is as before.
+    /// After an error, which only a new gate meets, the arena is as before.
     pub fn or(&mut self, left: Edge, right: Edge) -> Result<Edge, AllocError>
         requires left { left.place < length self.old }
         requires right { right.place < length self.old }
-        ensures conjunction { IfOk result (λ e. IsConjunction self.old (negation left) (negation right) self.new (negation e)) }
+        ensures conjunction { IfOk result (λ e. IsConjunction self.old (edge_negation left) (edge_negation right) self.new (edge_negation e)) }
         ensures within { IfOk result (λ e. e.place < length self.new) }
-        ensures computes { IfOk result (λ e. (s : Assignment) → edge_value s self.new e ≡ (edge_value s self.old left || edge_value s self.old right)) }
+        ensures computes { IfOk result (ComputesOr self.old left right self.new) }
         ensures cone { IfOk result (ConeWithin self.old left right self.new) }
-        ensures extends { Extends self.old self.new }
+        ensures grows { ArenaGrows self.old self.new }
         ensures count { length self.new ≤ length self.old + 1 }
-        ensures kept { KeepsEdges self.old self.new }
-        ensures is_arena { IsAig self.new }
+        ensures known { IsKnownConjunction self.old (edge_negation left) (edge_negation right) → IsOk result }
         ensures unchanged { OnErr result (self.new ≡ self.old) }
     {
         let neither = self.and(Aig::not(left), Aig::not(right))?;
@@ -166,19 +167,18 @@ impl Aig {
     }
 
     /// The edge that has the value of `yes` where `select` is true, and that of `no` elsewhere, for three edges
-    /// of this arena. It adds three gates at most. After an error all that was there is as before, and gates may
-    /// be left that nothing names.
+    /// of this arena. It adds three gates at most. After an error, which only a new gate meets, all that was there
+    /// is as before, and gates may be left that nothing names.
     pub fn mux(&mut self, select: Edge, yes: Edge, no: Edge) -> Result<Edge, AllocError>
         requires select { select.place < length self.old }
         requires yes { yes.place < length self.old }
         requires no { no.place < length self.old }
         ensures within { IfOk result (λ e. e.place < length self.new) }
-        ensures computes { IfOk result (λ e. (s : Assignment) → edge_value s self.new e ≡ (if edge_value s self.old select then edge_value s self.old yes else edge_value s self.old no)) }
-        ensures cone { IfOk result (λ e. (x : ℕ) → Contains (cone self.new e) x → Contains (cone self.old select) x ⊎ Contains (cone self.old yes) x ⊎ Contains (cone self.old no) x) }
-        ensures extends { Extends self.old self.new }
+        ensures computes { IfOk result (ComputesChoice self.old select yes no self.new) }
+        ensures cone { IfOk result (ChoiceConeWithin self.old select yes no self.new) }
+        ensures grows { ArenaGrows self.old self.new }
         ensures count { length self.new ≤ length self.old + 3 }
-        ensures kept { KeepsEdges self.old self.new }
-        ensures is_arena { IsAig self.new }
+        ensures known { IsKnownChoice self.old select yes no → IsOk result }
     {
         let chosen = self.and(select, yes)?;
         let other = self.and(Aig::not(select), no)?;
@@ -221,7 +221,7 @@ mod tests {
     use super::*;
     use std::test::Fail;
 
-    // An arena with the inputs of the variables 0 and 1, and their edges.
+    /// An arena with the inputs of the variables 0 and 1, and their edges.
     fn two_inputs(alloc: Global) -> Result<(Aig, Edge, Edge), AllocError>
         ensures first { IfOk result (λ r. r.1.place < length r.0) }
         ensures second { IfOk result (λ r. r.2.place < length r.0) }

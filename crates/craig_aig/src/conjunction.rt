@@ -4,7 +4,7 @@ ghost use Rattle.craig_aig.specs.Conjunctions.{folded, gate};
 
 use crate::{Aig, Edge, Node};
 
-// The edge of a conjunction that needs no gate.
+/// The edge of a conjunction that needs no gate.
 pub(crate) fn fold(left: Edge, right: Edge) -> Option<Edge>
     ensures { result ≡ folded left right }
 {
@@ -22,7 +22,7 @@ pub(crate) fn fold(left: Edge, right: Edge) -> Option<Edge>
     None
 }
 
-// The gate of two edges, the greater place first.
+/// The gate of two edges, the greater place first.
 pub(crate) fn make_gate(left: Edge, right: Edge) -> Node
     ensures { result ≡ gate left right }
 {

@@ -1,12 +1,17 @@
-ghost use Rattle.std.specs.Prelude.{◌≡◌, ◌<◌, ◌^◌};
-ghost use Rattle.craig_aig.specs.Edges.{negation};
+ghost use Rattle.std.specs.Prelude.{◌≡◌, ◌<◌, ◌^◌, nat_eq};
+ghost use Rattle.std.specs.Cmp.Rules.{comparing, hashing};
+ghost use Rattle.std.specs.Hash as fed;
+ghost use Rattle.std.specs.Ordering.{on};
+ghost use Rattle.std.proofs.Common.{rules};
+ghost use Rattle.craig_aig.specs.Edges.{edge_code, edge_negation};
 
+use std::hash::{Hash, Hasher};
 use std::marker::Model;
 
 /// A node of an arena or its negation, named by the place of the node.
 ///
 /// An edge is of an arena where its place is below the number of nodes there.
-#[derive(Clone, Copy, Debug, PartialEq, Eq, Hash)]
+#[derive(Clone, Copy, Debug)]
 pub struct Edge {
     // twice the place of the node, and one more where it is negated
     code: usize,
@@ -29,8 +34,32 @@ impl Model for Edge {
     ghost inverse_ok = { λ a h. ap (λ (n : ℕ). record { code = n }) (edge_code-edge_of_code a.code) };
 }
 
+impl PartialEq for Edge {
+    ghost eq = { on edge_code nat_eq };
+
+    ghost laws = { Prim.search (comparing, rules) };
+
+    fn eq(&self, other: &Edge) -> bool {
+        self.code == other.code
+    }
+}
+
+impl Eq for Edge {
+    ghost laws = { Prim.search (comparing, rules) };
+}
+
+impl Hash for Edge {
+    ghost hash_input = { λ e. fed.usize (edge_code e) };
+
+    ghost respects_eq = { Prim.search (hashing, rules) };
+
+    fn hash<H: Hasher>(&self, state: &mut H) {
+        self.code.hash(state);
+    }
+}
+
 impl Edge {
-    // The node at the place, or its negation.
+    /// The node at the place, or its negation.
     pub(crate) fn new(place: usize, negated: bool) -> Edge
         requires { place < 2 ^ 63 }
         ensures { result ≡ record { place = place; negated = negated } }
@@ -55,9 +84,9 @@ impl Edge {
         self.code % 2 == 1
     }
 
-    // The edge that is true exactly where this one is false.
+    /// The edge that is true exactly where this one is false.
     pub(crate) fn not(self) -> Edge
-        ensures { result ≡ negation self }
+        ensures { result ≡ edge_negation self }
     {
         Edge {
             code: self.code ^ 1,

@@ -21,7 +21,7 @@ impl Model for Level {
 }
 
 impl Level {
-    // The level of an arena that has so many nodes.
+    /// The level of an arena that has so many nodes.
     pub(crate) fn new(nodes: usize) -> Level
         requires { 1 ≤ nodes }
         ensures { result ≡ nodes }
@@ -29,7 +29,7 @@ impl Level {
         Level { nodes }
     }
 
-    // The number of nodes.
+    /// The number of nodes.
     pub(crate) fn nodes(self) -> usize
         ensures value { result ≡ self }
         ensures positive { 1 ≤ self }

@@ -6,7 +6,7 @@ ghost use Rattle.craig_aig.specs.Values.{edge_value_in, node_value, values, true
 use crate::{Edge, Node};
 use std::alloc::{AllocError, Global};
 
-// The value of an edge, given the values of the nodes up to its place.
+/// The value of an edge, given the values of the nodes up to its place.
 pub(crate) fn value_in(values: &[bool], edge: Edge) -> bool
     requires { edge.place < length values.now }
     ensures { result ≡ edge_value_in values.now edge }
@@ -14,7 +14,7 @@ pub(crate) fn value_in(values: &[bool], edge: Edge) -> bool
     values[edge.place()] != edge.negated()
 }
 
-// The value of a node, given the values of the nodes before it.
+/// The value of a node, given the values of the nodes before it.
 fn value_of(before: &[bool], node: Node, assignment: &[bool]) -> bool
     requires { IsPlaced (length before.now) node }
     ensures { result ≡ node_value (true_variables assignment.now) before.now node }
@@ -26,7 +26,7 @@ fn value_of(before: &[bool], node: Node, assignment: &[bool]) -> bool
     }
 }
 
-// The values of the constant and the nodes after it.
+/// The values of the constant and the nodes after it.
 pub(crate) fn values_of(
     alloc: Global,
     nodes: &[Node],

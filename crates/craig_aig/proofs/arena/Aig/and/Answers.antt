@@ -8,7 +8,7 @@ use Rattle.craig_aig.specs.Edges.{Edge}
 use Rattle.craig_aig.specs.Growth.{IsShared}
 use Rattle.craig_aig.specs.Values.{edge_value}
 use Rattle.craig_aig.proofs.ConjunctionLemmas.{edge_value-folded, cone-folded, within-IsShared, edge_value-gate, cone-gate}
-use Rattle.craig_aig.proofs.FunctionLemmas.{KeepsEdges-Extends}
+use Rattle.craig_aig.proofs.GrowthLemmas.{ArenaGrows-Extends, ArenaGrows-same}
 use Rattle.craig_aig.proofs.arena.Aig.and.Goals as goal
 
 pub returns-in-Some-clause-computes : goal.returns-in-Some-clause-computes
@@ -19,8 +19,8 @@ pub returns-in-Some-clause-cone : goal.returns-in-Some-clause-cone
 returns-in-Some-clause-cone c =
     cone-folded _ c.args.left c.args.right _ (subst IsAig c.self.view_is c.self.invariant) (sym c.fold.ensures ∙ c.in-Some.is)
 
-pub returns-in-Some-clause-is_arena : goal.returns-in-Some-clause-is_arena
-returns-in-Some-clause-is_arena c = subst IsAig c.self.view_is c.self.invariant
+pub returns-in-Some-clause-grows : goal.returns-in-Some-clause-grows
+returns-in-Some-clause-grows c = ArenaGrows-same c.args.self.now (subst IsAig c.self.view_is c.self.invariant)
 
 pub returns-in-None-clause-within : goal.returns-in-None-clause-within
 returns-in-None-clause-within c = IfOk-weaker _ _ _ (λ e h. within-IsShared _ _ _ e h) c.share.ensures.shared
@@ -39,5 +39,5 @@ returns-in-None-clause-cone c =
     IfOk-weaker _ P Q (λ e h. cone-gate _ _ c.args.left c.args.right e c.share.ensures.is_arena c.share.ensures.extends c.requires.left c.requires.right h)
     (rw c.make_gate.ensures at c.share.ensures.shared)
 
-pub returns-in-None-clause-kept : goal.returns-in-None-clause-kept
-returns-in-None-clause-kept c = KeepsEdges-Extends _ _ c.share.ensures.extends
+pub returns-in-None-clause-grows : goal.returns-in-None-clause-grows
+returns-in-None-clause-grows c = ArenaGrows-Extends _ _ c.share.ensures.extends c.share.ensures.is_arena

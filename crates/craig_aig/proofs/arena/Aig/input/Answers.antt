@@ -4,7 +4,7 @@ use Rattle.craig_spec.specs.Truth.{Assignment, variable_value}
 use Rattle.craig_aig.specs.Edges.{Edge}
 use Rattle.craig_aig.specs.Values.{edge_value}
 use Rattle.craig_aig.proofs.ConjunctionLemmas.{within-IsShared, edge_value-IsShared, cone-IsShared}
-use Rattle.craig_aig.proofs.FunctionLemmas.{KeepsEdges-Extends}
+use Rattle.craig_aig.proofs.GrowthLemmas.{ArenaGrows-Extends}
 use Rattle.craig_aig.proofs.arena.Aig.input.Goals as goal
 
 pub returns-clause-within : goal.returns-clause-within
@@ -18,5 +18,5 @@ returns-clause-computes c =
 pub returns-clause-cone : goal.returns-clause-cone
 returns-clause-cone c = IfOk-weaker _ _ _ (λ e h. cone-IsShared _ _ _ e c.share.ensures.is_arena h) c.share.ensures.shared
 
-pub returns-clause-kept : goal.returns-clause-kept
-returns-clause-kept c = KeepsEdges-Extends _ _ c.share.ensures.extends
+pub returns-clause-grows : goal.returns-clause-grows
+returns-clause-grows c = ArenaGrows-Extends _ _ c.share.ensures.extends c.share.ensures.is_arena

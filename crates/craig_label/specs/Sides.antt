@@ -5,12 +5,16 @@ use Rattle.craig_label.specs.declared.side.Side.TheVariants.{ALocal, Shared, BLo
 
 -- the first and the last part that a variable was noted in
 pub record Range : Type 0 where
+  -- the first part
   pub first : ℕ
+  -- the last part
   pub last : ℕ
 
--- the number of parts, and the range of each variable, if it has one; variables past the end have none
+-- the parts that variables were noted in
 pub record SidesView : Type 0 where
+  -- the number of parts
   pub parts : ℕ
+  -- the range of each variable, if it has one; variables past the end have none
   pub ranges : List (Option Range)
 
 -- the range of a variable
@@ -19,13 +23,18 @@ range_of sides x = slice_index_or sides.ranges x None
 
 -- a range is of parts from 1 to the last one
 pub record IsRange (parts : ℕ) (r : Range) : Type 0 where
+  -- parts are counted from 1
   pub first : 1 ≤ r.first
+  -- the first part isn't after the last one
   pub ordered : r.first ≤ r.last
+  -- and that is one of the parts
   pub last : r.last ≤ parts
 
--- each range is one of the parts, and there is a part
+-- what holds of all that was noted
 pub record IsSides (sides : SidesView) : Type 0 where
+  -- there is a part
   pub parts : 1 ≤ sides.parts
+  -- each range is one of the parts
   pub ranges : (x : ℕ) (r : Range) → range_of sides x ≡ Some r → IsRange sides.parts r
 
 -- the range with one part more
@@ -35,7 +44,9 @@ widened (Some r) part = record { first = min r.first part; last = max r.last par
 
 -- the variable was noted in the part, and all else is as it was
 pub record IsNoted (old : SidesView) (x part : ℕ) (new : SidesView) : Type 0 where
+  -- the number of parts stays
   pub parts : new.parts ≡ old.parts
+  -- the range of the variable is widened, and the others stay
   pub ranges : (y : ℕ) → range_of new y ≡ (if nat_eq y x then Some (widened (range_of old x) part) else range_of old y)
 
 -- a part up to the cut has a variable of the range
@@ -48,10 +59,11 @@ abbrev pub is_in_b : ℕ → Option Range → Bool
 is_in_b cut None = false
 is_in_b cut (Some r) = nat_lt cut r.last
 
--- the variable occurs on side A of the cut, and on side B
+-- the variable occurs on side A of the cut
 abbrev pub occurs_in_a : SidesView → ℕ → ℕ → Bool
 occurs_in_a sides cut x = is_in_a cut (range_of sides x)
 
+-- the variable occurs on side B of the cut
 abbrev pub occurs_in_b : SidesView → ℕ → ℕ → Bool
 occurs_in_b sides cut x = is_in_b cut (range_of sides x)
 

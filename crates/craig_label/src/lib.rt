@@ -4,6 +4,7 @@
 //! part are kept that have it, and they tell its side at each cut.
 #![tactic(auto)]
 
+pub mod laws;
 mod mark;
 mod range;
 mod side;

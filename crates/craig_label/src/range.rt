@@ -4,10 +4,12 @@ ghost use Rattle.craig_label.specs.Sides.{widened};
 use craig_base::Part;
 use std::marker::Model;
 
-// The first and the last part that a variable was noted in.
+/// The first and the last part that a variable was noted in.
 #[derive(Clone, Copy, Debug)]
 pub(crate) struct PartRange {
+    // the first part
     pub(crate) first: u16,
+    // the last part
     pub(crate) last: u16,
 }
 
@@ -22,7 +24,7 @@ impl Model for PartRange {
 }
 
 impl PartRange {
-    // The range with one part more.
+    /// The range with one part more.
     pub(crate) fn widened(range: Option<PartRange>, part: Part) -> PartRange
         ensures { result ≡ widened range part.0 }
     {

@@ -1,3 +1,4 @@
+//! The first and the last part of each variable, from which its side at each cut is read.
 ghost use Rattle.std.specs.Prelude.{◌≡◌, ◌<◌, ◌≤◌, ◌↔◌, ℕ, [], slice_index_or, vec_len, IfOk, OnOk, OnErr, None};
 ghost use Rattle.craig_label.specs.Sides.{IsNoted, IsSides, range_of, side_at};
 ghost use Rattle.craig_label.specs.declared.side.Side.{Side};
@@ -28,7 +29,7 @@ impl Model for Sides {
     ghost invariant = { λ s. IsSides (record { parts = s.parts; ranges = s.ranges.items }) };
 }
 
-// Makes the table long enough for the variable, with empty entries. After an error it is as before.
+/// Makes the table long enough for the variable, with empty entries. After an error it is as before.
 fn reach(ranges: &mut Vec<Option<PartRange>>, var: Var) -> Result<(), AllocError>
     ensures within { OnOk result (var.0 < vec_len ranges.new) }
     ensures same { (k : ℕ) → slice_index_or ranges.new.items k None ≡ slice_index_or ranges.old.items k None }

@@ -1,5 +1,5 @@
 -- Values and cones of edges: those of nodes by their operands, and what an arena that grows keeps.
-use Rattle.std.proofs.Common.{◌≡◌, ℕ, ◌<◌, ◌≤◌, Bool, false, not, cond, ◌&&◌, List, [], ◌++◌, length, get_or, take, Some, slice_get, refl, sym, ap, ◌∙◌, arith}
+use Rattle.std.proofs.Common.{◌≡◌, ℕ, ◌<◌, ◌≤◌, Bool, false, not, cond, ◌&&◌, List, [], ◌++◌, length, get_or, take, Some, slice_get, refl, sym, ap, ◌∙◌, arith, true}
 use Rattle.std.proofs.lemmas.List.{length-take-le}
 use Rattle.std.proofs.lemmas.Option.{slice_get_within, get_or_from_slice_get}
 use Rattle.std.proofs.Common.{subst}
@@ -12,7 +12,6 @@ use Rattle.craig_aig.specs.Values.{edge_value_in, node_value, values, edge_value
 use Rattle.craig_aig.specs.declared.node.Node.{Node}
 use Rattle.craig_aig.specs.declared.node.Node.TheVariants.{Constant, Input, Gate}
 use Rattle.craig_aig.proofs.FromFrontLemmas.{get_or-from_front_append, get_or-from_front_take, get_or-from_front}
-use Rattle.craig_aig.proofs.SignLemmas.{cond-negated}
 
 -- an edge has the value of its node, or the other one
 edge_value_in-equal : (v w : List Bool) (e : Edge) → get_or v e.place false ≡ get_or w e.place false → edge_value_in v e ≡ edge_value_in w e
@@ -68,6 +67,12 @@ cone-node nodes i n h at =
     let within : i < length nodes = slice_get_within nodes i n at in
     let front : get_or (cones nodes) i [] ≡ node_cone (cones (take i nodes)) (get_or nodes i n) = get_or-from_front node_cone nodes i [] n within in
     front ∙ ap (node_cone (cones (take i nodes))) (get_or_from_slice_get nodes i n n at) ∙ node_cone-placed nodes i n (omega arith) (placed_at nodes i n h at)
+
+-- the opposite sign gives the other value
+cond-negated : (n b : Bool) → cond (not n) (not b) b ≡ not (cond n (not b) b)
+cond-negated true true = refl
+cond-negated true false = refl
+cond-negated false b = refl
 
 -- the negation of an edge has the other value
 pub edge_value-negation : (s : Assignment) (nodes : List Node) (e : Edge) → edge_value s nodes (edge_negation e) ≡ not (edge_value s nodes e)

@@ -9,6 +9,5 @@ pub mod GrowthLemmas
 mod KnownLemmas
 mod NodeLemmas
 mod ShareLemmas
-pub mod SignLemmas
 mod TrueVariablesLemmas
 mod ValuesLemmas

@@ -1,23 +1,17 @@
 -- Edges of resolvents.
 use Rattle.std.proofs.Common.{◌≡◌, ℕ, ◌<◌, Bool, true, false, not, cond, ◌||◌, ◌&&◌, List, length, Contains, inl, inr, refl, sym, ap, ◌∙◌, subst}
 use Rattle.craig_spec.specs.Literal.{Literal, negation}
-use Rattle.craig_spec.specs.Truth.{Assignment, variable_value, literal_value}
+use Rattle.craig_spec.specs.Truth.{Assignment, literal_value}
 use Rattle.craig_spec.specs.PartialInterpolant.{Label, A, AB, B, join_value}
+use Rattle.craig_spec.proofs.LiteralLemmas.{literal_value-negation}
 use Rattle.craig_aig.specs.Cones.{ConeWithin}
+use Rattle.craig_aig.specs.Growth.{ArenaGrows}
 use Rattle.craig_aig.specs.Edges.{Edge}
 use Rattle.craig_aig.specs.Values.{edge_value}
 use Rattle.craig_aig.specs.declared.node.Node.{Node}
-use Rattle.craig_system.specs.Building.{Grows, IsMore}
+use Rattle.craig_system.specs.Building.{IsMore}
 use Rattle.craig_system.specs.Rules.{IsChoice, IsJoin}
-use Rattle.craig_system.proofs.GrowthLemmas.{value-Grows, cone-Grows}
-
-negated_value : (n b : Bool) → cond (not n) (not b) b ≡ not (cond n (not b) b)
-negated_value true true = refl
-negated_value true false = refl
-negated_value false b = refl
-
-literal_value-negation : (s : Assignment) (l : Literal) → literal_value s (negation l) ≡ not (literal_value s l)
-literal_value-negation s l = negated_value l.negated (variable_value s l.var)
+use Rattle.craig_aig.proofs.GrowthLemmas.{value-ArenaGrows, cone-ArenaGrows}
 
 choice_value : (pivot left right : Bool) → ((left || pivot) && (right || not pivot)) ≡ cond pivot right left
 choice_value true true true = refl
@@ -30,20 +24,20 @@ choice_value false false true = refl
 choice_value false false false = refl
 
 -- the conjunction of the two disjunctions
-pub IsChoice-and : (pivot : Literal) (old a b new : List Node) (left right first second e : Edge) → Grows old a → Grows a b → left.place < length old → right.place < length old → first.place < length a →
+pub IsChoice-and : (pivot : Literal) (old a b new : List Node) (left right first second e : Edge) → ArenaGrows old a → ArenaGrows a b → left.place < length old → right.place < length old → first.place < length a →
     IsMore pivot old left a first → IsMore (negation pivot) a right b second → ((s : Assignment) → edge_value s new e ≡ (edge_value s b first && edge_value s b second)) → ConeWithin b first second new e →
     IsChoice pivot old left right new e
 IsChoice-and pivot old a b new left right first second e one two left_in right_in first_in is_first is_second value inputs = record {
   value = λ s.
       let p : Bool = literal_value s pivot in
-      let f : edge_value s b first ≡ (edge_value s old left || p) = value-Grows s a b first two first_in ∙ is_first.value s in
+      let f : edge_value s b first ≡ (edge_value s old left || p) = value-ArenaGrows s a b first two first_in ∙ is_first.value s in
       let g : edge_value s b second ≡ (edge_value s old right || not p) =
-      is_second.value s ∙ ap (λ v. v || literal_value s (negation pivot)) (value-Grows s old a right one right_in) ∙ ap (λ v. edge_value s old right || v) (literal_value-negation s pivot) in
+      is_second.value s ∙ ap (λ v. v || literal_value s (negation pivot)) (value-ArenaGrows s old a right one right_in) ∙ ap (λ v. edge_value s old right || v) (literal_value-negation s pivot) in
       value s ∙ ap (λ v. v && edge_value s b second) f ∙ ap (λ v. (edge_value s old left || p) && v) g ∙ choice_value p (edge_value s old left) (edge_value s old right);
   inputs = λ x reached.
       elim (inputs x reached) [
-        | inl h ↦ elim (is_first.inputs x (subst (λ (k : List ℕ). Contains k x) (cone-Grows a b first two first_in) h)) [ inl l ↦ inl l | inr v ↦ inr (inr v) ]
-        | inr h ↦ elim (is_second.inputs x h) [ inl r ↦ inr (inl (subst (λ (k : List ℕ). Contains k x) (cone-Grows old a right one right_in) r)) | inr v ↦ inr (inr v) ]
+        | inl h ↦ elim (is_first.inputs x (subst (λ (k : List ℕ). Contains k x) (cone-ArenaGrows a b first two first_in) h)) [ inl l ↦ inl l | inr v ↦ inr (inr v) ]
+        | inr h ↦ elim (is_second.inputs x h) [ inl r ↦ inr (inl (subst (λ (k : List ℕ). Contains k x) (cone-ArenaGrows old a right one right_in) r)) | inr v ↦ inr (inr v) ]
       ];
 }
 

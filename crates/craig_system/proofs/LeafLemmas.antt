@@ -1,6 +1,7 @@
 -- Disjunctions of the literals of a clause that have a label, literal by literal.
 use Rattle.std.proofs.Common.{◌≡◌, ℕ, ◌+◌, ◌<◌, Bool, true, false, not, cond, eqb, ◌||◌, ◌&&◌, List, [], ◌∷◌, ◌++◌, length, get_or, take, Contains, inl, inr, refl, sym, ap, ◌∙◌, subst, append-nil, eq-eqb}
 use denote.Enum.Bare.{sameb}
+use Rattle.std.proofs.Math.Bool.{or-true, or-false}
 use Rattle.std.specs.List.{filter, list_any, list_all}
 use Rattle.std.proofs.lemmas.List.{take_more}
 use Rattle.std.proofs.lemmas.List.Elements.{filter-append}
@@ -34,20 +35,12 @@ is_label-equal B B h = refl
 filter-push : {X : Type 0} (p : X → Bool) (xs : List X) (y : X) (b : Bool) → p y ≡ b → filter p (xs ++ y ∷ []) ≡ filter p xs ++ cond b (y ∷ []) []
 filter-push p xs y b h = filter-append p xs (y ∷ []) ∙ ap (λ (t : Bool). filter p xs ++ cond t (y ∷ []) []) h
 
-or_true : (b : Bool) → (b || true) ≡ true
-or_true true = refl
-or_true false = refl
-
-or_false : (b : Bool) → (b || false) ≡ b
-or_false true = refl
-or_false false = refl
-
 occurs-before : (x : ℕ) (c : Clause) (l : Literal) → occurs_in_clause x c ≡ true → occurs_in_clause x (c ++ l ∷ []) ≡ true
 occurs-before x c l h = list_any-append (λ (k : Literal). eqb x k.var) c (l ∷ []) ∙ ap (λ b. b || (eqb x l.var || false)) h
 
 occurs-last : (x : ℕ) (c : Clause) (l : Literal) → x ≡ l.var → occurs_in_clause x (c ++ l ∷ []) ≡ true
 occurs-last x c l h =
-    list_any-append (λ (k : Literal). eqb x k.var) c (l ∷ []) ∙ ap (λ b. occurs_in_clause x c || (b || false)) (eq-eqb x l.var h) ∙ or_true (occurs_in_clause x c)
+    list_any-append (λ (k : Literal). eqb x k.var) c (l ∷ []) ∙ ap (λ b. occurs_in_clause x c || (b || false)) (eq-eqb x l.var h) ∙ or-true (occurs_in_clause x c)
 
 -- a literal with another label
 IsAny-push_other : (label : ℕ → Label) (wanted : Label) (c : Clause) (l : Literal) (nodes : List Node) (e : Edge) → is_label wanted (label l.var) ≡ false →
@@ -64,7 +57,7 @@ IsAny-push label wanted c l old before new e here h more = record {
   value = λ s.
       let test : Literal → Bool = λ k. is_label wanted (label k.var) in
       let all : clause_value s (filter test (c ++ l ∷ [])) ≡ (clause_value s (filter test c) || literal_value s l) =
-      ap (clause_value s) (filter-push test c l true here) ∙ list_any-append (literal_value s) (filter test c) (l ∷ []) ∙ ap (λ b. clause_value s (filter test c) || b) (or_false (literal_value s l)) in
+      ap (clause_value s) (filter-push test c l true here) ∙ list_any-append (literal_value s) (filter test c) (l ∷ []) ∙ ap (λ b. clause_value s (filter test c) || b) (or-false (literal_value s l)) in
       more.value s ∙ ap (λ v. v || literal_value s l) (h.value s) ∙ sym all;
   inputs = λ x reached.
       elim (more.inputs x reached) [

@@ -1,4 +1,4 @@
-mod GrowthLemmas
-mod LiteralLemmas
-mod LeafLemmas
 mod JoinLemmas
+mod LeafLemmas
+mod LiteralLemmas
+mod ResultLemmas

@@ -1,6 +1,6 @@
 //! The gates of a choice between two edges by a literal.
 ghost use Rattle.std.specs.Prelude.{◌<◌, length, IfOk};
-ghost use Rattle.craig_system.specs.Building.{Grows};
+ghost use Rattle.craig_aig.specs.Growth.{ArenaGrows};
 ghost use Rattle.craig_system.specs.Rules.{IsChoice};
 
 use crate::literal::or_literal;
@@ -8,7 +8,7 @@ use craig_aig::{Aig, Edge};
 use craig_base::Lit;
 use std::alloc::AllocError;
 
-// The choice as a conjunction of two disjunctions: of the pivot and `left`, and of its negation and `right`.
+/// The choice as a conjunction of two disjunctions: of the pivot and `left`, and of its negation and `right`.
 pub(crate) fn conjunction_of_either(
     aig: &mut Aig,
     pivot: Lit,
@@ -19,7 +19,7 @@ pub(crate) fn conjunction_of_either(
     requires right { right.place < length aig.old }
     ensures within { IfOk result (λ e. e.place < length aig.new) }
     ensures choice { IfOk result (IsChoice pivot aig.old left right aig.new) }
-    ensures grows { Grows aig.old aig.new }
+    ensures grows { ArenaGrows aig.old aig.new }
 {
     let first = or_literal(aig, left, pivot)?;
     let second = or_literal(aig, right, pivot.not())?;

@@ -1,7 +1,8 @@
 //! The disjunction of the literals of a clause that have one label, from which the rules for clauses are made.
 ghost use Rattle.std.specs.Prelude.{◌≤◌, ◌<◌, length, IfOk};
 ghost use Rattle.craig_label.specs.Marks.{label_of};
-ghost use Rattle.craig_system.specs.Building.{Grows, IsAny};
+ghost use Rattle.craig_aig.specs.Growth.{ArenaGrows};
+ghost use Rattle.craig_system.specs.Building.{IsAny};
 ghost use Rattle.craig_system.specs.Rules.{labelling};
 
 use crate::System;
@@ -11,7 +12,7 @@ use craig_base::Lit;
 use craig_label::{Mark, Sides};
 use std::alloc::AllocError;
 
-// The disjunction of the literals that have the label.
+/// The disjunction of the literals that have the label.
 pub(crate) fn any_labelled<S: System>(
     system: &S,
     aig: &mut Aig,
@@ -23,7 +24,7 @@ pub(crate) fn any_labelled<S: System>(
     requires { cut ≤ sides.now.parts }
     ensures within { IfOk result (λ e. e.place < length aig.new) }
     ensures any { IfOk result (IsAny (labelling sides.now cut (S.marks system.now)).label (label_of label) lits.now aig.new) }
-    ensures grows { Grows aig.old aig.new }
+    ensures grows { ArenaGrows aig.old aig.new }
 {
     // What holds of each arena is known from here on.
     let _ = aig.len();

@@ -1,3 +1,4 @@
+//! Pudlák's system: "Lower bounds for resolution and cutting plane proofs and monotone computations", JSL 1997.
 ghost use Rattle.std.specs.Prelude.{◌≡◌, IfOk};
 ghost use Rattle.craig_spec.specs.PartialInterpolant.{AB};
 
@@ -6,8 +7,6 @@ use craig_base::Var;
 use craig_label::Mark;
 
 /// Pudlák's system: variables of both sides count as such.
-///
-/// Pudlák, "Lower bounds for resolution and cutting plane proofs and monotone computations", JSL 1997.
 #[derive(Clone, Copy, Debug)]
 pub struct Pudlak;
 
@@ -28,7 +27,7 @@ mod tests {
     use std::alloc::{AllocError, Global};
     use std::test::Fail;
 
-    // At cut 1 the variable 0 is on side A, 1 on both sides and 2 on side B.
+    /// At cut 1 the variable 0 is on side A, 1 on both sides and 2 on side B.
     fn three_variables(alloc: Global) -> Result<Sides, AllocError>
         ensures { IfOk result (λ s. s.parts ≡ 2) }
     {
@@ -40,100 +39,35 @@ mod tests {
         Ok(sides)
     }
 
-    const ASSIGNMENTS: [[bool; 3]; 8] = [
-        [false, false, false],
-        [false, false, true],
-        [false, true, false],
-        [false, true, true],
-        [true, false, false],
-        [true, false, true],
-        [true, true, false],
-        [true, true, true],
-    ];
-
     #[test]
-    fn labels_at_a_cut(rt: HostRuntime) -> Result<(), Fail> {
-        let sides = three_variables(rt.alloc())?;
-        for (var, label) in [(0, Mark::A), (1, Mark::Ab), (2, Mark::B), (3, Mark::B)] {
-            assert_eq!(rt; Pudlak.label(&sides, 1, Var(var)), label);
-        }
-        Ok(())
-    }
-
-    #[test]
-    fn leaves_have_the_local_literals_of_the_other_side(rt: HostRuntime) -> Result<(), Fail> {
+    fn leaves_have_the_literals_of_the_other_side(rt: HostRuntime) -> Result<(), Fail> {
         let sides = three_variables(rt.alloc())?;
         let mut aig = Aig::new(rt.alloc());
-        let x = Lit::new(Var(0), false);
-        let y = Lit::new(Var(1), false);
-        let z = Lit::new(Var(2), true);
-        assert_eq!(rt;
-            Pudlak.leaf_a(&mut aig, &sides, 1, &[x, y])?,
-            Aig::constant(false)
-        );
-        assert_eq!(rt;
-            Pudlak.leaf_b(&mut aig, &sides, 1, &[y, z])?,
-            Aig::constant(true)
-        );
-        let leaf_a = Pudlak.leaf_a(&mut aig, &sides, 1, &[x, y, z])?;
-        let leaf_b = Pudlak.leaf_b(&mut aig, &sides, 1, &[x, y, z])?;
-        for assignment in ASSIGNMENTS {
-            assert_eq!(rt; aig.value(leaf_a, &assignment)?, !assignment[2]);
-            assert_eq!(rt; aig.value(leaf_b, &assignment)?, !assignment[0]);
-        }
+        let clause = [
+            Lit::new(Var(0), false),
+            Lit::new(Var(1), false),
+            Lit::new(Var(2), true),
+        ];
+        let leaf_a = Pudlak.leaf_a(&mut aig, &sides, 1, &clause)?;
+        let leaf_b = Pudlak.leaf_b(&mut aig, &sides, 1, &clause)?;
+        assert_eq!(rt; leaf_a, Aig::not(aig.input(Var(2))?));
+        assert_eq!(rt; leaf_b, Aig::not(aig.input(Var(0))?));
         Ok(())
     }
 
     #[test]
-    fn local_pivots_join_by_one_gate(rt: HostRuntime) -> Result<(), Fail> {
+    fn a_shared_pivot_joins_by_a_conjunction_of_two_disjunctions(
+        rt: HostRuntime,
+    ) -> Result<(), Fail> {
         let sides = three_variables(rt.alloc())?;
         let mut aig = Aig::new(rt.alloc());
         let left = aig.input(Var(0))?;
-        let right = aig.input(Var(2))?;
-        let either = Pudlak.join(&mut aig, &sides, 1, Lit::new(Var(0), false), left, right)?;
-        let both = Pudlak.join(&mut aig, &sides, 1, Lit::new(Var(2), true), left, right)?;
-        for assignment in ASSIGNMENTS {
-            let [left, _, right] = assignment;
-            assert_eq!(rt; aig.value(either, &assignment)?, left || right);
-            assert_eq!(rt; aig.value(both, &assignment)?, left && right);
-        }
-        Ok(())
-    }
-
-    #[test]
-    fn shared_pivots_choose(rt: HostRuntime) -> Result<(), Fail> {
-        let sides = three_variables(rt.alloc())?;
-        let mut aig = Aig::new(rt.alloc());
-        let left = aig.input(Var(0))?;
-        let right = aig.input(Var(2))?;
-        let chosen = Pudlak.join(&mut aig, &sides, 1, Lit::new(Var(1), false), left, right)?;
-        let other = Pudlak.join(&mut aig, &sides, 1, Lit::new(Var(1), true), left, right)?;
-        for assignment in ASSIGNMENTS {
-            let [left, pivot, right] = assignment;
-            assert_eq!(rt;
-                aig.value(chosen, &assignment)?,
-                if pivot { right } else { left }
-            );
-            assert_eq!(rt;
-                aig.value(other, &assignment)?,
-                if pivot { left } else { right }
-            );
-        }
-        Ok(())
-    }
-
-    #[test]
-    fn a_choice_is_a_conjunction_of_two_disjunctions(rt: HostRuntime) -> Result<(), Fail> {
-        let mut aig = Aig::new(rt.alloc());
-        let left = aig.input(Var(0))?;
+        let no = Aig::constant(false);
+        let joined = Pudlak.join(&mut aig, &sides, 1, Lit::new(Var(1), false), left, no)?;
         let pivot = aig.input(Var(1))?;
-        let right = aig.input(Var(2))?;
-        let first = aig.or(pivot, left)?;
-        let second = aig.or(Aig::not(pivot), right)?;
-        let expected = aig.and(first, second)?;
-        let choice = Pudlak.choice(&mut aig, Lit::new(Var(1), false), left, right)?;
-        assert_eq!(rt; choice, expected);
-        assert_eq!(rt; aig.len(), 7);
+        let either = aig.or(pivot, left)?;
+        let expected = aig.and(either, Aig::not(pivot))?;
+        assert_eq!(rt; joined, expected);
         Ok(())
     }
 }

@@ -1,8 +1,9 @@
+//! What an interpolation system is: its labels, and the edges that the rules of a labelled system give, after D'Silva,
+//! Kroening, Purandare and Weissenbacher, VMCAI 2010.
 ghost use Rattle.std.specs.Prelude.{◌≡◌, ◌<◌, ◌≤◌, ℕ, length, IfOk};
 ghost use Rattle.craig_spec.specs.PartialInterpolant.{Label};
 ghost use Rattle.craig_label.specs.Marks.{label_of};
-ghost use Rattle.craig_aig.specs.Arenas.{IsAig};
-ghost use Rattle.craig_aig.specs.Growth.{Extends, KeepsEdges};
+ghost use Rattle.craig_aig.specs.Growth.{ArenaGrows};
 ghost use Rattle.craig_system.specs.Rules.{labelling, IsLeafA, IsLeafB, IsChoice, IsJoin};
 
 use crate::choice::conjunction_of_either;
@@ -48,9 +49,7 @@ pub trait System {
         requires { cut ≤ sides.now.parts }
         ensures within { IfOk result (λ e. e.place < length aig.new) }
         ensures leaf { IfOk result (IsLeafA (labelling sides.now cut (marks self.now)).label lits.now aig.new) }
-        ensures extends { Extends aig.old aig.new }
-        ensures kept { KeepsEdges aig.old aig.new }
-        ensures is_arena { IsAig aig.new }
+        ensures grows { ArenaGrows aig.old aig.new }
     {
         any_labelled(self, aig, sides, cut, Mark::B, lits)
     }
@@ -66,9 +65,7 @@ pub trait System {
         requires { cut ≤ sides.now.parts }
         ensures within { IfOk result (λ e. e.place < length aig.new) }
         ensures leaf { IfOk result (IsLeafB (labelling sides.now cut (marks self.now)).label lits.now aig.new) }
-        ensures extends { Extends aig.old aig.new }
-        ensures kept { KeepsEdges aig.old aig.new }
-        ensures is_arena { IsAig aig.new }
+        ensures grows { ArenaGrows aig.old aig.new }
     {
         let some = any_labelled(self, aig, sides, cut, Mark::A, lits)?;
         Ok(Aig::not(some))
@@ -82,9 +79,7 @@ pub trait System {
         requires right { right.place < length aig.old }
         ensures within { IfOk result (λ e. e.place < length aig.new) }
         ensures choice { IfOk result (IsChoice pivot aig.old left right aig.new) }
-        ensures extends { Extends aig.old aig.new }
-        ensures kept { KeepsEdges aig.old aig.new }
-        ensures is_arena { IsAig aig.new }
+        ensures grows { ArenaGrows aig.old aig.new }
     {
         conjunction_of_either(aig, pivot, left, right)
     }
@@ -106,9 +101,7 @@ pub trait System {
         requires right { right.place < length aig.old }
         ensures within { IfOk result (λ e. e.place < length aig.new) }
         ensures join { IfOk result (IsJoin (labelling sides.now cut (marks self.now)).label pivot aig.old left right aig.new) }
-        ensures extends { Extends aig.old aig.new }
-        ensures kept { KeepsEdges aig.old aig.new }
-        ensures is_arena { IsAig aig.new }
+        ensures grows { ArenaGrows aig.old aig.new }
     {
         match self.label(sides, cut, pivot.var()) {
             Mark::A => aig.or(left, right),

@@ -5,12 +5,13 @@ use Rattle.craig_aig.specs.Cones.{ConeWithin}
 use Rattle.craig_aig.specs.Values.{edge_value}
 use Rattle.craig_system.specs.Building.{IsMore}
 use Rattle.craig_system.specs.Rules.{IsChoice}
-use Rattle.craig_system.proofs.GrowthLemmas.{IfOk-both, Grows-call, Grows-trans}
+use Rattle.craig_aig.proofs.GrowthLemmas.{ArenaGrows-trans}
+use Rattle.craig_system.proofs.ResultLemmas.{IfOk-both}
 use Rattle.craig_system.proofs.JoinLemmas.{IsChoice-and}
 use Rattle.craig_system.proofs.choice.conjunction_of_either.Goals as goal
 
 pub returns-in_err-second-clause-grows : goal.returns-in_err-second-clause-grows
-returns-in_err-second-clause-grows c = Grows-trans c.args.aig.now c.or_literal.new.aig c.or_literal-2.new.aig c.or_literal.ensures.grows c.or_literal-2.ensures.grows
+returns-in_err-second-clause-grows c = ArenaGrows-trans c.args.aig.now c.or_literal.new.aig c.or_literal-2.new.aig c.or_literal.ensures.grows c.or_literal-2.ensures.grows
 
 pub returns-clause-choice : goal.returns-clause-choice
 returns-clause-choice c =
@@ -33,5 +34,5 @@ pub returns-clause-grows : goal.returns-clause-grows
 returns-clause-grows c =
     let old = c.args.aig.now in
     let b = c.or_literal-2.new.aig in
-    Grows-trans old b c.and.new.self (Grows-trans old c.or_literal.new.aig b c.or_literal.ensures.grows c.or_literal-2.ensures.grows)
-    (Grows-call b c.and.new.self c.and.ensures.extends c.and.ensures.kept c.and.ensures.is_arena)
+    ArenaGrows-trans old b c.and.new.self (ArenaGrows-trans old c.or_literal.new.aig b c.or_literal.ensures.grows c.or_literal-2.ensures.grows)
+    c.and.ensures.grows

@@ -3,7 +3,8 @@ use Rattle.craig_spec.specs.Truth.{Assignment}
 use Rattle.craig_aig.specs.Cones.{ConeWithin}
 use Rattle.craig_aig.specs.Values.{edge_value}
 use Rattle.craig_system.specs.Building.{IsMore}
-use Rattle.craig_system.proofs.GrowthLemmas.{IfOk-both, Grows-call, Grows-trans}
+use Rattle.craig_aig.proofs.GrowthLemmas.{ArenaGrows-trans}
+use Rattle.craig_system.proofs.ResultLemmas.{IfOk-both}
 use Rattle.craig_system.proofs.LiteralLemmas.{IsMore-or}
 use Rattle.craig_system.proofs.literal.or_literal.Goals as goal
 
@@ -20,5 +21,5 @@ returns-clause-more c =
 
 pub returns-clause-grows : goal.returns-clause-grows
 returns-clause-grows c =
-    Grows-trans c.args.aig.now c.literal_edge.new.aig c.or.new.self c.literal_edge.ensures.grows
-    (Grows-call c.literal_edge.new.aig c.or.new.self c.or.ensures.extends c.or.ensures.kept c.or.ensures.is_arena)
+    ArenaGrows-trans c.args.aig.now c.literal_edge.new.aig c.or.new.self c.literal_edge.ensures.grows
+    c.or.ensures.grows

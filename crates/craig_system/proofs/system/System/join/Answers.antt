@@ -4,7 +4,7 @@ use Rattle.craig_spec.specs.Truth.{Assignment}
 use Rattle.craig_aig.specs.Cones.{ConeWithin}
 use Rattle.craig_aig.specs.Values.{edge_value}
 use Rattle.craig_system.specs.Rules.{labelling, IsChoice, IsJoin}
-use Rattle.craig_system.proofs.GrowthLemmas.{IfOk-both}
+use Rattle.craig_system.proofs.ResultLemmas.{IfOk-both}
 use Rattle.craig_system.proofs.JoinLemmas.{IsJoin-or, IsJoin-and, IsJoin-choice}
 use Rattle.craig_system.proofs.system.System.join.Goals as goal
 

@@ -12,7 +12,7 @@ use Rattle.craig_aig.specs.declared.node.Node.{Node}
 use Rattle.craig_proof.specs.Tracer.{chain_of}
 use Rattle.craig_proof.specs.declared.step.Step.{Step}
 use Rattle.craig_system.specs.Rules.{IsJoin}
-use Rattle.craig_itp.specs.StepEdges.{IsReached, IsChainEdge}
+use Rattle.craig_itp.specs.StepEdges.{IsEdgeReached, IsChainEdge}
 use Rattle.craig_itp.specs.declared.step_edge.StepEdge.{StepEdge}
 
 -- one step more
@@ -39,7 +39,7 @@ module _ (label : ℕ → Label) (edges : List StepEdge) (old : List Node) (firs
       ∙ ap (λ b. join_value (label step.pivot.var) (literal_value s step.pivot) (chain_value label s value (value first) rest) b) by_right
       ∙ sym (chain_value-push label s value (value first) rest step)
 
-  joined_inputs : (x : ℕ) → Contains (cone new e) x → (label x ≡ AB) ⊎ IsReached edges old x
+  joined_inputs : (x : ℕ) → Contains (cone new e) x → (label x ≡ AB) ⊎ IsEdgeReached edges old x
   joined_inputs x reached =
       elim (join.inputs x reached) [
         | inl by_left ↦ chain.inputs x by_left

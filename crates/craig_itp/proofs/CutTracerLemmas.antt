@@ -1,6 +1,5 @@
 -- What a tracer keeps when its arena grows, when a step is told and when one is forgotten.
 use Rattle.std.proofs.Common.{◌≡◌, ◌≢◌, ◌⊎◌, inl, inr, ℕ, ◌<◌, ◌≤◌, Bool, true, false, cond, eqb, List, [], ◌∷◌, ◌++◌, length, get_or, take, map, Contains, IsTrue, Some, refl, sym, ap, ◌∙◌, subst, arith}
-use Rattle.std.specs.List.{filter}
 use Rattle.std.specs.Option.{ForSome, option_map}
 use Rattle.std.proofs.lemmas.List.{map-append, length-map}
 use Rattle.std.proofs.lemmas.List.Elements.{Contains-push, Contains-push_cases, Contains-append_left}
@@ -10,7 +9,6 @@ use Rattle.craig_spec.specs.Literal.{Clause}
 use Rattle.craig_spec.specs.Occurs.{occurs_in_clause}
 use Rattle.craig_spec.specs.Truth.{Assignment}
 use Rattle.craig_spec.specs.Chain.{ToldStep, Told, IsAbove, IsTold, forgotten_at, with_step, without_id}
-use Rattle.craig_spec.specs.Needed.{Reclaims}
 use Rattle.craig_spec.specs.PartialInterpolant.{Label, Labelling, AB, origin_value, partial_values}
 use Rattle.craig_base.specs.declared.clause_id.ClauseId.{ClauseId}
 use Rattle.craig_proof.specs.Tracer.{Appends, chain_of, original_step, derived_step}
@@ -24,10 +22,10 @@ use Rattle.craig_aig.specs.declared.node.Node.{Node}
 use Rattle.craig_label.specs.Sides.{SidesView}
 use Rattle.craig_system.specs.Rules.{labelling}
 use Rattle.craig_itp.specs.CutTracer.{IsCutTracer}
-use Rattle.craig_itp.specs.StepEdges.{IsLeafEdge, IsReached, IsChainEdge, MayEnter, IsEdgeOf, AreEdges}
+use Rattle.craig_itp.specs.StepEdges.{IsLeafEdge, IsEdgeReached, IsChainEdge, MayEnter, IsEdgeOf, AreEdges}
 use Rattle.craig_itp.specs.declared.step_edge.StepEdge.{StepEdge}
 use Rattle.craig_itp.proofs.PartialValuesLemmas.{partial_values-new, partial_values-old, partial_values-forgotten}
-use Rattle.craig_itp.proofs.GrowthLemmas.{KeepsEdges-same, KeepsEdges-trans, length-Extends, take-Extends, Extends-take}
+use Rattle.craig_aig.proofs.GrowthLemmas.{ArenaGrows-Extends, ArenaGrows-same, Extends-take, Extends-trans, length-Extends, take-Extends}
 use Rattle.craig_itp.proofs.ToldEdgesLemmas.{step_ids, id_at, at_step}
 
 -- nothing was told
@@ -35,7 +33,7 @@ pub AreEdges-nothing : (l : Labelling) (nodes : List Node) → IsAig nodes → A
 AreEdges-nothing l nodes arena = record {
   is_arena = arena;
   within = omega arith;
-  kept = subst (λ (front : List Node). KeepsEdges front nodes) (sym (take-length nodes)) (KeepsEdges-same nodes);
+  kept = subst (λ (front : List Node). KeepsEdges front nodes) (sym (take-length nodes)) (ArenaGrows-same nodes arena).kept;
   ids = refl;
   each = λ e known. let no : known.0 < 0 = known.1 in absurd (omega arith);
 }
@@ -55,7 +53,7 @@ pub AreEdges-grown : (l : Labelling) (steps : List ToldStep) (older : ℕ) (node
 AreEdges-grown l steps older nodes new edges h grown kept arena = record {
   is_arena = arena;
   within = omega (arith, h.within, length-Extends nodes new grown);
-  kept = subst (λ (front : List Node). KeepsEdges front new) (sym (take-Extends older nodes new h.within grown)) (KeepsEdges-trans (take older nodes) nodes new (Extends-take older nodes) h.kept kept);
+  kept = subst (λ (front : List Node). KeepsEdges front new) (sym (take-Extends older nodes new h.within grown)) (ArenaGrows-Extends (take older nodes) new (Extends-trans (take older nodes) nodes new (Extends-take older nodes) grown) arena).kept;
   ids = h.ids;
   each = λ e known. IsEdgeOf-grown l steps nodes new e.id.0 e.edge grown kept (h.each e known);
 }
@@ -116,7 +114,7 @@ AreEdges-original l t older nodes edges new part c h told above within leaf =
     (λ x reached. inr (record { step = original_step new.id.0 part c; part = part; told = Contains-push t.steps (original_step new.id.0 part c); original = refl; occurs = (leaf.inputs x reached).0; label_is = (leaf.inputs x reached).1 }))
 
 -- what a chain's edge reaches may enter
-chain_input : (l : Labelling) (steps : List ToldStep) (step : ToldStep) (older : ℕ) (nodes : List Node) (edges : List StepEdge) (x : ℕ) → AreEdges l steps older nodes edges → (l.label x ≡ AB) ⊎ IsReached edges nodes x → MayEnter l (steps ++ step ∷ []) x
+chain_input : (l : Labelling) (steps : List ToldStep) (step : ToldStep) (older : ℕ) (nodes : List Node) (edges : List StepEdge) (x : ℕ) → AreEdges l steps older nodes edges → (l.label x ≡ AB) ⊎ IsEdgeReached edges nodes x → MayEnter l (steps ++ step ∷ []) x
 chain_input l steps step older nodes edges x h (inl both) = inl both
 chain_input l steps step older nodes edges x h (inr r) = MayEnter-pushed l steps step x ((h.each r.step r.known).inputs x r.reached)
 
@@ -173,14 +171,6 @@ AreEdges-forgotten l id t older nodes edges h = record {
         inputs = λ x reached. MayEnter-forgotten l id t.steps x (before.inputs x reached);
       };
 }
-
-filter-all : (steps : List ToldStep) → steps ≡ filter (λ _. true) steps
-filter-all [] = refl
-filter-all (s ∷ steps) = ap (λ rest. s ∷ rest) (filter-all steps)
-
--- it is allowed to give up nothing
-pub Reclaims-nothing : (t : Told) → Reclaims t t
-Reclaims-nothing t = record { greatest = refl; kept = λ _. true; steps = filter-all t.steps; closed = λ s r here there left ante. refl; needed = λ s id here unforgotten needed. refl }
 
 -- what a tracer keeps, when an id is forgotten
 pub IsCutTracer-forgotten : (sides : SidesView) (cut : ℕ) (marks : ℕ → Label) (id : ℕ) (t u : Told) (older : ℕ) (nodes : List Node) (edges : List StepEdge) → IsCutTracer sides cut marks t older nodes edges → Some u ≡ option_map (without_id id) (Some t) → IsCutTracer sides cut marks u older nodes edges

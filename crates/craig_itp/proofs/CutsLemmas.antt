@@ -6,10 +6,12 @@ use Rattle.craig_spec.specs.Truth.{Assignment, literal_value}
 use Rattle.craig_spec.specs.Chain.{ChainStep, Origin, Original, Derived, ToldStep, Told, antecedents, clause_told, IsResolvent, IsChain, StandsOn, IsTold}
 use Rattle.craig_spec.specs.Needed.{IsNeeded}
 use Rattle.craig_spec.specs.PartialInterpolant.{Label, A, AB, B, rank, Labelling, IsBelow, label_at, leaf_a_value, join_value, chain_value, origin_value, partial_values, partial_interpolant}
+use Rattle.craig_spec.proofs.MemberLemmas.{Contains-front, Contains-later}
+use Rattle.craig_spec.proofs.ToldLemmas.{IsNeeded-root, clause_told-find}
 use Rattle.craig_label.specs.Sides.{Range, SidesView, IsRange, range_of, is_in_a, is_in_b, occurs_in_a, occurs_in_b}
 use Rattle.craig_system.specs.Rules.{labelling}
 use Rattle.craig_itp.specs.Labellings.{MeetsRules, ValueImplies, IsNotedRefutation, PartsHold, cut_value}
-use Rattle.craig_itp.proofs.StandingLemmas.{Contains-front, Contains-later, told_step, each_stands, by_antecedents, needed_antecedent, needed_itself}
+use Rattle.craig_itp.proofs.StandingLemmas.{each_stands, by_antecedents, needed_antecedent}
 use Rattle.craig_itp.proofs.PartialValuesLemmas.{MeetsRules-partial_values}
 use Rattle.craig_itp.proofs.LeafLemmas.{leaf_a-true, leaf_b-from, occurs_at}
 use Rattle.craig_itp.proofs.TwoLabellingsLemmas.{root-implied}
@@ -92,8 +94,8 @@ module _ (l : Labelling) (s : Assignment) (t : Told) (root : ℕ) (told : IsTold
     -- all are true
     root-true : (c : Clause) → clause_told t.steps root ≡ Some c → partial_interpolant l t.steps root s ≡ true
     root-true c is =
-        let r = told_step t.steps root c is in
-        subst (λ (id : ℕ). IsNeeded t.steps root id → partial_interpolant l t.steps id s ≡ true) r.2 (value-true (partial_values l s t.steps) (MeetsRules-partial_values l s t told) r.0 r.1) (needed_itself t.steps root)
+        let r = clause_told-find t.steps root c is in
+        subst (λ (id : ℕ). IsNeeded t.steps root id → partial_interpolant l t.steps id s ≡ true) r.2 (value-true (partial_values l s t.steps) (MeetsRules-partial_values l s t told) r.0 r.1) (IsNeeded-root t.steps root)
 
   -- where all variables of the originals are labelled A, and the originals are of side A
   module _ (labels : (q : ToldStep) (part : ℕ) → Contains t.steps q → IsNeeded t.steps root q.id → q.origin ≡ Original part → (m : Literal) → Contains q.literals m → l.label m.var ≡ A) (parts : (q : ToldStep) (part : ℕ) → Contains t.steps q → IsNeeded t.steps root q.id → q.origin ≡ Original part → l.on_side_a part ≡ true) where
@@ -135,15 +137,15 @@ module _ (l : Labelling) (s : Assignment) (t : Told) (root : ℕ) (told : IsTold
     value-false f rules =
         by_antecedents t.steps (λ q. IsNeeded t.steps root q.id → IsAFalse q.literals (f q.id)) (each_stands t told) (λ q here earlier need.
         subst (λ (b : Bool). IsAFalse q.literals b) (sym (rules q here)) (origin_value-false f q q.origin refl here need (each_stands t told q here).stands (λ x d ante is.
-        let r = told_step t.steps x d is in
+        let r = clause_told-find t.steps x d is in
         let ante_r : Contains (antecedents q.origin) (r.0).id = subst (λ (y : ℕ). Contains (antecedents q.origin) y) (sym r.2) ante in
         subst₂ (λ (y : ℕ) (e : Clause). IsAFalse e (f y)) r.2 r.3 (earlier r.0 r.1 ante_r (needed_antecedent t.steps root q (r.0).id here ante_r need)))))
 
     -- all are false
     root-false : (c : Clause) → clause_told t.steps root ≡ Some c → partial_interpolant l t.steps root s ≡ false
     root-false c is =
-        let r = told_step t.steps root c is in
-        subst (λ (id : ℕ). IsNeeded t.steps root id → partial_interpolant l t.steps id s ≡ false) r.2 (λ need. (value-false (partial_values l s t.steps) (MeetsRules-partial_values l s t told) r.0 r.1 need).1) (needed_itself t.steps root)
+        let r = clause_told-find t.steps root c is in
+        subst (λ (id : ℕ). IsNeeded t.steps root id → partial_interpolant l t.steps id s ≡ false) r.2 (λ need. (value-false (partial_values l s t.steps) (MeetsRules-partial_values l s t told) r.0 r.1 need).1) (IsNeeded-root t.steps root)
 
 -- at cut 0 nothing is on side A
 is_in_a-none : (parts : ℕ) (o : Option Range) → ((r : Range) → o ≡ Some r → IsRange parts r) → is_in_a 0 o ≡ false

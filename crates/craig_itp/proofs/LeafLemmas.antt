@@ -6,8 +6,8 @@ use Rattle.craig_spec.specs.Literal.{Literal, Clause}
 use Rattle.craig_spec.specs.Occurs.{occurs_in_clause}
 use Rattle.craig_spec.specs.Truth.{Assignment, literal_value, clause_value}
 use Rattle.craig_spec.specs.PartialInterpolant.{Label, A, AB, B, is_a, is_b, Labelling, leaf_a_value, leaf_b_value}
+use Rattle.craig_spec.proofs.MemberLemmas.{Contains-cases, Contains-front, Contains-later}
 use Rattle.craig_itp.specs.Labellings.{crosses, CrossingAreFalse}
-use Rattle.craig_itp.proofs.StandingLemmas.{Contains-front, Contains-later, Contains-cases}
 
 -- a clause is true by one of its literals
 pub true_literal : (s : Assignment) (c : Clause) → clause_value s c ≡ true → (m : Literal) × Contains c m × (literal_value s m ≡ true)

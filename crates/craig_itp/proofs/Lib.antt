@@ -2,7 +2,6 @@ pub mod ChainEdgeLemmas
 pub mod CutTracerLemmas
 pub mod CutsLemmas
 pub mod ExampleLemmas
-pub mod GrowthLemmas
 pub mod InterpolationLemmas
 pub mod JoinLemmas
 pub mod LeafLemmas

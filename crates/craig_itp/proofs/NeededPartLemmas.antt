@@ -5,7 +5,8 @@ use Rattle.craig_spec.specs.Truth.{Assignment}
 use Rattle.craig_spec.specs.Chain.{ToldStep, Told, antecedents, IsTold}
 use Rattle.craig_spec.specs.Needed.{IsClosed, IsNeeded, IsNeededPart, unforgotten}
 use Rattle.craig_spec.specs.PartialInterpolant.{Labelling, origin_value, partial_values}
-use Rattle.craig_itp.proofs.StandingLemmas.{Contains-front, Contains-later, each_stands, needed_antecedent}
+use Rattle.craig_spec.proofs.MemberLemmas.{Contains-front, Contains-later}
+use Rattle.craig_itp.proofs.StandingLemmas.{each_stands, needed_antecedent}
 use Rattle.craig_itp.proofs.PartialValuesLemmas.{origin_value-same, more_values, values_from, values-elsewhere}
 
 -- the steps of the ids that pass, not forgotten

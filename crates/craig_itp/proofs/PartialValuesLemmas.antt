@@ -7,8 +7,9 @@ use Rattle.craig_spec.specs.Truth.{Assignment, literal_value}
 use Rattle.craig_spec.specs.Chain.{ChainStep, Origin, Original, Derived, ToldStep, Told, antecedents, forgotten_at, with_step, without_id, AreRising, IsTold}
 use Rattle.craig_spec.specs.Needed.{Reclaims}
 use Rattle.craig_spec.specs.PartialInterpolant.{Labelling, join_value, chain_value, origin_value, with_value, partial_values}
+use Rattle.craig_spec.proofs.MemberLemmas.{Contains-cases, Contains-front, Contains-later}
 use Rattle.craig_itp.specs.Labellings.{MeetsRules, IsSameStep, AreStepsOf}
-use Rattle.craig_itp.proofs.StandingLemmas.{Contains-cases, Contains-front, Contains-later, each_stands, by_antecedents}
+use Rattle.craig_itp.proofs.StandingLemmas.{each_stands, by_antecedents}
 
 module _ (l : Labelling) (s : Assignment) where
   -- the value of a clause looks at no other values than those of its antecedents

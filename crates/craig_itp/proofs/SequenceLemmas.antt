@@ -19,7 +19,7 @@ use Rattle.craig_aig.specs.Values.{edge_value}
 use Rattle.craig_aig.specs.declared.node.Node.{Node}
 use Rattle.craig_itp.specs.Interpolants.{IsInterpolant, AreInterpolants, NeededAreNoted, NeededHaveParts}
 use Rattle.craig_itp.specs.Labellings.{IsNotedRefutation}
-use Rattle.craig_itp.proofs.GrowthLemmas.{length-Extends}
+use Rattle.craig_aig.proofs.GrowthLemmas.{length-Extends}
 
 -- an interpolant stays one when the arena grows
 IsInterpolant-grown : (sides : SidesView) (cut : ℕ) (marks : ℕ → Label) (steps : List ToldStep) (root : ℕ) (nodes new : List Node) (e : Edge) → Extends nodes new → KeepsEdges nodes new → IsInterpolant sides cut marks steps root nodes e → IsInterpolant sides cut marks steps root new e

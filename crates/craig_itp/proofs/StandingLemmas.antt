@@ -1,29 +1,10 @@
 -- Steps that stand on one another, each by itself.
-use Rattle.std.proofs.Common.{◌≡◌, ◌⊎◌, inl, inr, ℕ, suc, zero, ◌<◌, Bool, true, false, cond, eqb, List, [], ◌∷◌, length, get_or, take, map, Contains, Option, Some, None, refl, ap, sym, subst, ◌∙◌, arith, eqb-true, length-take}
+use Rattle.std.proofs.Common.{◌≡◌, ℕ, suc, zero, ◌<◌, Bool, true, false, cond, eqb, List, [], ◌∷◌, length, get_or, take, Contains, Option, Some, None, refl, ap, sym, subst, ◌∙◌, arith, eqb-true, length-take}
 use Rattle.std.proofs.lemmas.List.{get_or-take}
 use Rattle.craig_spec.specs.Literal.{Clause}
 use Rattle.craig_spec.specs.Chain.{ChainStep, Origin, Original, Derived, ToldStep, Told, antecedents, clause_told, IsChain, StandsOn, IsTold}
 use Rattle.craig_spec.specs.Needed.{IsNeeded}
-
--- one more member in front
-pub Contains-front : {A : Type 0} (x : A) (xs : List A) → Contains (x ∷ xs) x
-Contains-front x xs = (0, omega arith, refl)
-
-pub Contains-later : {A : Type 0} (y : A) (xs : List A) (x : A) → Contains xs x → Contains (y ∷ xs) x
-Contains-later y xs x (k, within, at) = (suc k, omega arith, at)
-
-pub Contains-cases : {A : Type 0} (y : A) (xs : List A) (x : A) → Contains (y ∷ xs) x → (y ≡ x) ⊎ Contains xs x
-Contains-cases y xs x (zero, within, at) = inl at
-Contains-cases y xs x (suc k, within, at) = inr (k, omega arith, at)
-
--- a clause that was told is one of a step
-told_step-cases : (r : ToldStep) (steps : List ToldStep) (x : ℕ) (d : Clause) (b : Bool) → eqb r.id x ≡ b → cond b (Some r.literals) (clause_told steps x) ≡ Some d → (clause_told steps x ≡ Some d → (q : ToldStep) × Contains steps q × (q.id ≡ x) × (q.literals ≡ d)) → (q : ToldStep) × Contains (r ∷ steps) q × (q.id ≡ x) × (q.literals ≡ d)
-told_step-cases r steps x d true e h later = (r, Contains-front r steps, eqb-true r.id x e, cc)
-told_step-cases r steps x d false e h later = let q = later h in (q.0, Contains-later r steps q.0 q.1, q.2, q.3)
-
-pub told_step : (steps : List ToldStep) (x : ℕ) (d : Clause) → clause_told steps x ≡ Some d → (q : ToldStep) × Contains steps q × (q.id ≡ x) × (q.literals ≡ d)
-told_step [] x d h = absurd (cc)
-told_step (r ∷ steps) x d h = told_step-cases r steps x d (eqb r.id x) refl h (told_step steps x d)
+use Rattle.craig_spec.proofs.ToldLemmas.{StandsOn-given, clause_told-find}
 
 -- what the first steps tell, all of them tell
 more_told-cases : (r : ToldStep) (steps : List ToldStep) (k x : ℕ) (d : Clause) (b : Bool) → cond b (Some r.literals) (clause_told (take k steps) x) ≡ Some d → (clause_told (take k steps) x ≡ Some d → clause_told steps x ≡ Some d) → cond b (Some r.literals) (clause_told steps x) ≡ Some d
@@ -44,17 +25,6 @@ IsChain-more f g c (s ∷ rest) last more (d, r, is, resolved, chain) = (d, r, m
 StandsOn-more : (before after : List ToldStep) (c : Clause) (origin : Origin) → ((x : ℕ) (d : Clause) → clause_told before x ≡ Some d → clause_told after x ≡ Some d) → StandsOn before c origin → StandsOn after c origin
 StandsOn-more before after c (Original part) more h = h
 StandsOn-more before after c (Derived first rest) more h = record { start = h.start; start_is = more first h.start h.start_is; chain = IsChain-more (clause_told before) (clause_told after) h.start rest c more h.chain }
-
--- the look-up gives each antecedent of a chain
-chain_given : (f : ℕ → Option Clause) (c : Clause) (rest : List ChainStep) (last : Clause) (x : ℕ) → IsChain f c rest last → Contains (map (λ s. s.antecedent) rest) x → (d : Clause) × (f x ≡ Some d)
-chain_given f c [] last x chain (k, within, at) = absurd (omega arith)
-chain_given f c (s ∷ rest) last x (d, r, is, resolved, more) (zero, within, at) = (d, subst (λ (y : ℕ). f y ≡ Some d) at is)
-chain_given f c (s ∷ rest) last x (d, r, is, resolved, more) (suc k, within, at) = chain_given f r rest last x more (k, omega arith, at)
-
-stands_given : (before : List ToldStep) (c : Clause) (origin : Origin) (x : ℕ) → StandsOn before c origin → Contains (antecedents origin) x → (d : Clause) × (clause_told before x ≡ Some d)
-stands_given before c (Original part) x stands (k, within, at) = absurd (omega arith)
-stands_given before c (Derived first rest) x stands (zero, within, at) = (stands.start, subst (λ (y : ℕ). clause_told before y ≡ Some stands.start) at stands.start_is)
-stands_given before c (Derived first rest) x stands (suc k, within, at) = chain_given (clause_told before) stands.start rest c x stands.chain (k, omega arith, at)
 
 -- a clause of the first steps is that of a place among them
 told_place-cases : (s : ToldStep) (steps : List ToldStep) (id : ℕ) (c : Clause) (b : Bool) → eqb s.id id ≡ b → cond b (Some s.literals) (clause_told steps id) ≡ Some c → (clause_told steps id ≡ Some c → (k : ℕ) × (k < length steps) × ((d : ToldStep) → (get_or steps k d).id ≡ id)) → (k : ℕ) × (k < length (s ∷ steps)) × ((d : ToldStep) → (get_or (s ∷ steps) k d).id ≡ id)
@@ -77,7 +47,7 @@ each_stands t told s (k, within, at) =
     record {
       stands = StandsOn-more (take k t.steps) t.steps s.literals s.origin (more_told t.steps k) here;
       below = λ x ante.
-          let d = stands_given (take k t.steps) s.literals s.origin x here ante in
+          let d = StandsOn-given (take k t.steps) s.literals s.origin x here ante in
           let p = told_place (take k t.steps) x d.0 d.1 in
           let before : p.0 < k = omega (arith, p.1, length-take k t.steps) in
           let low : (get_or t.steps p.0 s).id ≡ x = sym (ap (λ (q : ToldStep). q.id) (get_or-take k t.steps p.0 s before)) ∙ p.2 s in
@@ -85,8 +55,8 @@ each_stands t told s (k, within, at) =
           let high : (get_or t.steps k s).id ≡ s.id = ap (λ (q : ToldStep). q.id) at in
           omega arith;
       given = λ x ante.
-          let d = stands_given (take k t.steps) s.literals s.origin x here ante in
-          let r = told_step t.steps x d.0 (more_told t.steps k x d.0 d.1) in
+          let d = StandsOn-given (take k t.steps) s.literals s.origin x here ante in
+          let r = clause_told-find t.steps x d.0 (more_told t.steps k x d.0 d.1) in
           (r.0, r.1, r.2);
     }
 
@@ -98,13 +68,6 @@ up_to steps P stand claim (suc n) s here low = claim s here (λ r there ante. le
 pub by_antecedents : (steps : List ToldStep) (P : ToldStep → Type 0) → ((s : ToldStep) → Contains steps s → Stands steps s) → ((s : ToldStep) → Contains steps s → ((r : ToldStep) → Contains steps r → Contains (antecedents s.origin) r.id → P r) → P s) → (s : ToldStep) → Contains steps s → P s
 by_antecedents steps P stand claim s here = up_to steps P stand claim (suc s.id) s here (omega arith)
 
--- the needs of an antecedent are needed
-pub needed_below : (steps : List ToldStep) (s : ToldStep) (x id : ℕ) → Contains steps s → Contains (antecedents s.origin) x → IsNeeded steps x id → IsNeeded steps s.id id
-needed_below steps s x id here ante needed p root closed = needed p (closed s x here root ante) closed
-
 -- the antecedents of what a root needs are needed
 pub needed_antecedent : (steps : List ToldStep) (root : ℕ) (s : ToldStep) (x : ℕ) → Contains steps s → Contains (antecedents s.origin) x → IsNeeded steps root s.id → IsNeeded steps root x
 needed_antecedent steps root s x here ante needed p rooted closed = closed s x here (needed p rooted closed) ante
-
-pub needed_itself : (steps : List ToldStep) (id : ℕ) → IsNeeded steps id id
-needed_itself steps id p rooted closed = rooted

@@ -5,8 +5,10 @@ use Rattle.craig_spec.specs.Literal.{Literal, Clause, negation}
 use Rattle.craig_spec.specs.Truth.{Assignment, literal_value, variable_value}
 use Rattle.craig_spec.specs.Chain.{ChainStep, Origin, Original, Derived, ToldStep, Told, antecedents, clause_told, IsResolvent, IsChain, StandsOn, IsTold}
 use Rattle.craig_spec.specs.PartialInterpolant.{Labelling, IsBelow, join_value, chain_value, origin_value, partial_values}
+use Rattle.craig_spec.proofs.MemberLemmas.{Contains-front, Contains-later}
+use Rattle.craig_spec.proofs.ToldLemmas.{IsNeeded-below, IsNeeded-root, clause_told-find}
 use Rattle.craig_itp.specs.Labellings.{MeetsRules, crosses, CrossingAreFalse, AddedHold, ValueImplies}
-use Rattle.craig_itp.proofs.StandingLemmas.{Contains-front, Contains-later, told_step, each_stands, by_antecedents, needed_below, needed_itself}
+use Rattle.craig_itp.proofs.StandingLemmas.{each_stands, by_antecedents}
 use Rattle.craig_itp.proofs.PartialValuesLemmas.{MeetsRules-partial_values}
 use Rattle.craig_itp.proofs.JoinLemmas.{join-implied}
 use Rattle.craig_itp.proofs.LeafLemmas.{leaf-implied}
@@ -76,14 +78,14 @@ module _ (low high : Labelling) (s : Assignment) where
 
       antecedent-implied : (q : ToldStep) (x : ℕ) (d : Clause) → Contains steps q → ((r : ToldStep) → Contains steps r → Contains (antecedents q.origin) r.id → StepImplied r) → AddedHold low high steps q.id s → Contains (antecedents q.origin) x → clause_told steps x ≡ Some d → Implied d (f x) (g x)
       antecedent-implied q x d here earlier added ante is =
-          let r = told_step steps x d is in
+          let r = clause_told-find steps x d is in
           let ante_r : Contains (antecedents q.origin) (r.0).id = subst (λ (y : ℕ). Contains (antecedents q.origin) y) (sym r.2) ante in
-          let claim : Implied (r.0).literals (f (r.0).id) (g (r.0).id) = earlier r.0 r.1 ante_r (λ o part there need. added o part there (needed_below steps q (r.0).id o.id here ante_r need)) in
+          let claim : Implied (r.0).literals (f (r.0).id) (g (r.0).id) = earlier r.0 r.1 ante_r (λ o part there need. added o part there (IsNeeded-below steps q (r.0).id o.id here ante_r need)) in
           subst₂ (λ (y : ℕ) (e : Clause). Implied e (f y) (g y)) r.2 r.3 claim
 
       origin-implied : (q : ToldStep) (o : Origin) → q.origin ≡ o → Contains steps q → StandsOn steps q.literals o → ((r : ToldStep) → Contains steps r → Contains (antecedents q.origin) r.id → StepImplied r) → AddedHold low high steps q.id s → Implied q.literals (origin_value low s f q.literals o) (origin_value high s g q.literals o)
       origin-implied q (Original part) is here stands earlier added = λ crossing.
-          leaf-implied low high s q.literals crossing (low.on_side_a part) (high.on_side_a part) (below.parts part) (λ b a. added q part here (needed_itself steps q.id) is b a)
+          leaf-implied low high s q.literals crossing (low.on_side_a part) (high.on_side_a part) (below.parts part) (λ b a. added q part here (IsNeeded-root steps q.id) is b a)
       origin-implied q (Derived first rest) is here stands earlier added =
           let ids : List ℕ = map (λ q. q.antecedent) rest in
           let same : antecedents q.origin ≡ first ∷ ids = ap antecedents is in
@@ -104,6 +106,6 @@ two_labellings-implied low high below t told q here s =
 -- of the empty clause nothing is asked
 pub root-implied : (low high : Labelling) → IsBelow low high → (t : Told) → IsTold t → (root : ℕ) → clause_told t.steps root ≡ Some [] → (s : Assignment) → AddedHold low high t.steps root s → ValueImplies low high t.steps root s
 root-implied low high below t told root empty s =
-    let r = told_step t.steps root [] empty in
+    let r = clause_told-find t.steps root [] empty in
     let none : CrossingAreFalse low high s (r.0).literals = subst (λ (c : Clause). CrossingAreFalse low high s c) (sym r.3) (λ m (k, within, at). absurd (omega arith)) in
     subst (λ (id : ℕ). AddedHold low high t.steps id s → ValueImplies low high t.steps id s) r.2 (λ added. two_labellings-implied low high below t told r.0 r.1 s added none)

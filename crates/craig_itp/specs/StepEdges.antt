@@ -27,7 +27,7 @@ pub record IsLeafEdge (l : Labelling) (part : ℕ) (c : Clause) (nodes : List No
   pub inputs : (x : ℕ) → Contains (cone nodes e) x → IsTrue (occurs_in_clause x c) × (l.label x ≡ crossing_label (l.on_side_a part))
 
 -- one of the edges reaches the variable
-pub record IsReached (edges : List StepEdge) (nodes : List Node) (x : ℕ) : Type 0 where
+pub record IsEdgeReached (edges : List StepEdge) (nodes : List Node) (x : ℕ) : Type 0 where
   pub step : StepEdge
   pub known : Contains edges step
   pub reached : Contains (cone nodes step.edge) x
@@ -35,7 +35,7 @@ pub record IsReached (edges : List StepEdge) (nodes : List Node) (x : ℕ) : Typ
 -- whatever values the ids have that the edges of the old arena have, the edge has the value of the chain; it reaches what those edges reach, and variables labelled AB
 pub record IsChainEdge (label : ℕ → Label) (edges : List StepEdge) (old : List Node) (first : ℕ) (rest : List ChainStep) (nodes : List Node) (e : Edge) : Type 0 where
   pub value : (s : Assignment) (value : ℕ → Bool) → ((step : StepEdge) → Contains edges step → edge_value s old step.edge ≡ value step.id.0) → edge_value s nodes e ≡ chain_value label s value (value first) rest
-  pub inputs : (x : ℕ) → Contains (cone nodes e) x → (label x ≡ AB) ⊎ IsReached edges old x
+  pub inputs : (x : ℕ) → Contains (cone nodes e) x → (label x ≡ AB) ⊎ IsEdgeReached edges old x
 
 -- the variable is one of an original, and labelled as one of the other side
 pub record Crosses (l : Labelling) (steps : List ToldStep) (x : ℕ) : Type 0 where

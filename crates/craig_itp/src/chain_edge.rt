@@ -1,7 +1,7 @@
 //! The edges of the rules for one told clause.
 ghost use Rattle.std.specs.Prelude.{◌≡◌, ◌<◌, ◌≤◌, All, AllPairs, IfOk, length};
 ghost use Rattle.craig_aig.specs.Arenas.{IsAig};
-ghost use Rattle.craig_aig.specs.Growth.{Extends, KeepsEdges};
+ghost use Rattle.craig_aig.specs.Growth.{ArenaGrows};
 ghost use Rattle.craig_system.specs.Rules.{labelling};
 ghost use Rattle.craig_proof.specs.Tracer.{chain_of};
 ghost use Rattle.craig_itp.specs.StepEdges.{HasEdge, IsLeafEdge, IsChainEdge};
@@ -14,7 +14,7 @@ use craig_proof::Step;
 use craig_system::System;
 use std::alloc::AllocError;
 
-// The edge of an original, by the side of its part.
+/// The edge of an original, by the side of its part.
 pub(crate) fn leaf_edge<S: System>(
     aig: &mut Aig,
     sides: &Sides,
@@ -26,9 +26,7 @@ pub(crate) fn leaf_edge<S: System>(
     requires { cut ≤ sides.now.parts }
     ensures within { IfOk result (λ e. e.place < length aig.new) }
     ensures leaf { IfOk result (IsLeafEdge (labelling sides.now cut (S.marks system.now)) part.0 lits.now aig.new) }
-    ensures extends { Extends aig.old aig.new }
-    ensures kept { KeepsEdges aig.old aig.new }
-    ensures is_arena { IsAig aig.new }
+    ensures grows { ArenaGrows aig.old aig.new }
 {
     if part.0 <= cut {
         system.leaf_a(aig, sides, cut, lits)
@@ -37,7 +35,7 @@ pub(crate) fn leaf_edge<S: System>(
     }
 }
 
-// The edge of a derived clause: that of its first antecedent, joined in turn with those of the others.
+/// The edge of a derived clause: that of its first antecedent, joined in turn with those of the others.
 pub(crate) fn chain_edge<S: System>(
     aig: &mut Aig,
     edges: &[StepEdge],
@@ -55,9 +53,7 @@ pub(crate) fn chain_edge<S: System>(
     requires rest { All (λ s. HasEdge edges.now s.antecedent.0) rest.now }
     ensures within { IfOk result (λ e. e.place < length aig.new) }
     ensures chain { IfOk result (IsChainEdge (labelling sides.now cut (S.marks system.now)).label edges.now aig.old first.0 (chain_of rest.now) aig.new) }
-    ensures extends { Extends aig.old aig.new }
-    ensures kept { KeepsEdges aig.old aig.new }
-    ensures is_arena { IsAig aig.new }
+    ensures grows { ArenaGrows aig.old aig.new }
 {
     let mut edge = known_edge(edges, first);
     for step in rest {

@@ -4,8 +4,7 @@ ghost use Rattle.craig_base.specs.Clauses.{IsNormal};
 ghost use Rattle.craig_spec.specs.Chain.{Told, IsAbove, IsUnforgotten, ChainOk, Derived, antecedents, clause_told, nothing_told, without_id};
 ghost use Rattle.craig_spec.specs.Needed.{Reclaims};
 ghost use Rattle.craig_proof.specs.Tracer.{chain_of, original_step, derived_step, Appends};
-ghost use Rattle.craig_aig.specs.Arenas.{IsAig};
-ghost use Rattle.craig_aig.specs.Growth.{Extends, KeepsEdges};
+ghost use Rattle.craig_aig.specs.Growth.{ArenaGrows};
 ghost use Rattle.craig_itp.specs.CutTracer.{Setting, setting};
 ghost use Rattle.craig_itp.specs.Interpolants.{AreNoted, HasPartialValue, HasSharedInputs};
 
@@ -91,9 +90,7 @@ impl<'a, S: System> CutTracer<'a, S> {
     /// The arena, with the nodes that it had at first at its front. Older edges have kept their functions.
     pub fn into_aig(self) -> Aig
         ensures nodes { result ≡ self.entry.nodes }
-        ensures extends { Extends self.entry.older result }
-        ensures kept { KeepsEdges self.entry.older result }
-        ensures is_arena { IsAig result }
+        ensures grows { ArenaGrows self.entry.older result }
     {
         self.aig
     }

@@ -31,7 +31,7 @@ impl Edges {
 
     /// Appends an edge. After an error the list is as before.
     pub fn push(&mut self, item: Edge) -> Result<(), AllocError>
-        ensures ok { OnOk result (self.new ≡ self.old ++ item ∷ []) }
+        ensures pushed { OnOk result (self.new ≡ self.old ++ item ∷ []) }
         ensures unchanged { OnErr result (self.new ≡ self.old) }
     {
         self.items.push(item)?;

@@ -1,8 +1,7 @@
 //! Interpolants of a refutation that a chain store keeps.
 ghost use Rattle.std.specs.Prelude.{◌≡◌, ◌<◌, ◌≤◌, [], Some, length, IfOk};
 ghost use Rattle.craig_spec.specs.Chain.{IsUnforgotten, clause_told, nothing_told};
-ghost use Rattle.craig_aig.specs.Arenas.{IsAig};
-ghost use Rattle.craig_aig.specs.Growth.{Extends, KeepsEdges};
+ghost use Rattle.craig_aig.specs.Growth.{ArenaGrows};
 ghost use Rattle.craig_itp.specs.CutTracer.{setting};
 ghost use Rattle.craig_itp.specs.Interpolants.{AreInterpolants, IsInterpolant, NeededAreNoted};
 
@@ -15,7 +14,7 @@ use craig_system::System;
 use std::alloc::{AllocError, Global};
 use std::mem::replace;
 
-// The edge of the root, which the tracer is told from the chains that it needs. The tracer was told nothing.
+/// The edge of the root, which the tracer is told from the chains that it needs. The tracer was told nothing.
 fn replayed_edge<S: System>(
     store: &ChainStore,
     root: ClauseId,
@@ -57,9 +56,7 @@ pub fn interpolate<S: System>(
     requires cut { cut ≤ sides.now.parts }
     requires noted { NeededAreNoted sides.now store.now.told.steps root.0 }
     ensures interpolant { IfOk result (IsInterpolant sides.now cut (S.marks system.now) store.now.told.steps root.0 aig.new) }
-    ensures extends { Extends aig.old aig.new }
-    ensures kept { KeepsEdges aig.old aig.new }
-    ensures is_arena { IsAig aig.new }
+    ensures grows { ArenaGrows aig.old aig.new }
 {
     let given = replace(aig, Aig::new(alloc));
     let mut tracer = CutTracer::new(alloc, given, sides, cut, system);
@@ -83,9 +80,7 @@ pub fn sequence<S: System>(
     requires empty { clause_told store.now.told.steps root.0 ≡ Some [] }
     requires noted { NeededAreNoted sides.now store.now.told.steps root.0 }
     ensures interpolants { IfOk result (AreInterpolants sides.now (S.marks system.now) store.now.told.steps root.0 aig.new) }
-    ensures extends { Extends aig.old aig.new }
-    ensures kept { KeepsEdges aig.old aig.new }
-    ensures is_arena { IsAig aig.new }
+    ensures grows { ArenaGrows aig.old aig.new }
 {
     craig_aig::laws::no_input_is_constant();
     crate::laws::cuts_of_a_refutation();

@@ -9,7 +9,6 @@ ghost use Rattle.craig_label.specs.Sides.{SidesView};
 ghost use Rattle.craig_system.specs.Rules.{labelling};
 ghost use Rattle.craig_itp.specs.Labellings.{AddedHold, AreStepsOf, CrossingAreFalse, IsNotedRefutation, MeetsRules, PartsHold, ValueImplies, cut_value};
 
-
 /// The values by which partial interpolants are defined are those that the rules give at each step, and no others are.
 /// The value of a new step is by the values before it, which stay, also when an id is forgotten or steps are given up.
 /// A step that stands in two lists has one value.

@@ -1,6 +1,5 @@
 use Rattle.std.proofs.Common.{◌<◌, length, take}
-use Rattle.craig_aig.specs.Arenas.{IsAig}
-use Rattle.craig_aig.specs.Growth.{Extends, KeepsEdges}
+use Rattle.craig_aig.specs.Growth.{ArenaGrows}
 use Rattle.craig_system.specs.Rules.{labelling}
 use Rattle.craig_proof.specs.Tracer.{chain_of}
 use Rattle.craig_itp.specs.StepEdges.{IsChainEdge}
@@ -10,7 +9,5 @@ abbrev pub invariant-loop-step : goal.invariant-loop-step
 invariant-loop-step g l = record {
   within : l.edge.place < length l.aig;
   chain : IsChainEdge (labelling l.sides l.cut (g.S.System.marks l.system)).label l.edges l.fn.aig l.fn.first.0 (chain_of (take l.step-index l.rest)) l.aig l.edge;
-  extends : Extends l.fn.aig l.aig;
-  kept : KeepsEdges l.fn.aig l.aig;
-  is_arena : IsAig l.aig;
+  grows : ArenaGrows l.fn.aig l.aig;
 }

@@ -23,16 +23,16 @@ derived-requires-clause-unforgotten g c = rw (← c.self.view_is) at c.requires.
 
 pub invariant_of-self : goal.invariant_of-self
 invariant_of-self g c =
-    IsCutTracer-failed _ _ _ _ _ _ _ _ _ _ c.self.invariant c.chain_edge.ensures.extends c.chain_edge.ensures.kept c.chain_edge.ensures.is_arena refl refl
+    IsCutTracer-failed _ _ _ _ _ _ _ _ _ _ c.self.invariant c.chain_edge.ensures.grows.extends c.chain_edge.ensures.grows.kept c.chain_edge.ensures.grows.is_arena refl refl
 
 pub invariant_of-self-in_err-reserve : goal.invariant_of-self-in_err-reserve
 invariant_of-self-in_err-reserve g c =
-    IsCutTracer-failed _ _ _ _ _ _ _ _ _ _ c.self.invariant c.chain_edge.ensures.extends c.chain_edge.ensures.kept c.chain_edge.ensures.is_arena c.reserve.ensures.items refl
+    IsCutTracer-failed _ _ _ _ _ _ _ _ _ _ c.self.invariant c.chain_edge.ensures.grows.extends c.chain_edge.ensures.grows.kept c.chain_edge.ensures.grows.is_arena c.reserve.ensures.items refl
 
 pub invariant_of-self-in_err-derived : goal.invariant_of-self-in_err-derived
 invariant_of-self-in_err-derived g c =
-    IsCutTracer-failed _ _ _ _ _ _ _ _ _ _ c.self.invariant c.chain_edge.ensures.extends c.chain_edge.ensures.kept c.chain_edge.ensures.is_arena c.reserve.ensures.items c.in_err-derived.ensures.unchanged
+    IsCutTracer-failed _ _ _ _ _ _ _ _ _ _ c.self.invariant c.chain_edge.ensures.grows.extends c.chain_edge.ensures.grows.kept c.chain_edge.ensures.grows.is_arena c.reserve.ensures.items c.in_err-derived.ensures.unchanged
 
 pub invariant_of-self-2 : goal.invariant_of-self-2
 invariant_of-self-2 g c =
-    IsCutTracer-derived _ _ _ _ _ _ _ _ _ _ c.args.id _ c.self.invariant c.each_clause_follows.ensures.told (rw (← c.self.view_is) at c.requires.above) c.chain_edge.ensures.extends c.chain_edge.ensures.kept c.chain_edge.ensures.is_arena c.in_ok-edge.ensures.within (rw c.reserve.ensures.items at c.push_reserved.ensures.items) _ _ _ (rw c.as_slice-edges.ensures.value at c.in_ok-edge.ensures.chain) c.in_ok-derived.ensures.told
+    IsCutTracer-derived _ _ _ _ _ _ _ _ _ _ c.args.id _ c.self.invariant c.each_clause_follows.ensures.told (rw (← c.self.view_is) at c.requires.above) c.chain_edge.ensures.grows.extends c.chain_edge.ensures.grows.kept c.chain_edge.ensures.grows.is_arena c.in_ok-edge.ensures.within (rw c.reserve.ensures.items at c.push_reserved.ensures.items) _ _ _ (rw c.as_slice-edges.ensures.value at c.in_ok-edge.ensures.chain) c.in_ok-derived.ensures.told

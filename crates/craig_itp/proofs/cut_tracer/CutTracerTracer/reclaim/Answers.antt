@@ -1,4 +1,4 @@
-use Rattle.craig_itp.proofs.CutTracerLemmas.{Reclaims-nothing}
+use Rattle.craig_spec.proofs.ToldLemmas.{Reclaims-nothing}
 use Rattle.craig_itp.proofs.cut_tracer.CutTracerTracer.reclaim.Goals as goal
 
 pub returns-clause-told : goal.returns-clause-told

@@ -29,3 +29,4 @@ pub mod OverLemmas
 pub mod ListedLiteralsLemmas
 pub mod PutRepliesLemmas
 pub mod CircuitShapeLemmas
+pub mod TruePartsLemmas

@@ -21,5 +21,6 @@ pub mod Statuses
 pub mod StopStatus
 pub mod Stored
 pub mod Transcript
+pub mod TrueParts
 pub mod Unassuming
 pub mod Values

@@ -1,5 +1,5 @@
 use Rattle.craig_top.proofs.NothingLeftLemmas.{sequence_refutes}
-use Rattle.craig_top.proofs.laws.nothing_left.Goals as goal
+use Rattle.craig_top.proofs.laws.cuts.nothing_left.Goals as goal
 
 pub returns : goal.returns
 returns c = sequence_refutes

@@ -30,3 +30,4 @@ pub mod ListedLiteralsLemmas
 pub mod PutRepliesLemmas
 pub mod CircuitShapeLemmas
 pub mod TruePartsLemmas
+pub mod DrawnStepsLemmas

@@ -1,5 +1,6 @@
 pub mod CircuitShape
 pub mod CutLayout
+pub mod DrawnSteps
 pub mod Emptied
 pub mod Ending
 pub mod GivenState

@@ -6,9 +6,14 @@
 mod circuits;
 mod cuts;
 mod models;
+mod refutations;
 mod runs;
 
 pub use circuits::{literals_of_a_circuit, strict_circuits};
 pub use cuts::{failed_assumptions, interpolants_at_cuts, nothing_left};
 pub use models::literals_of_a_model;
+pub use refutations::{
+    clauses_along_a_chain, resolvents, steps_of_a_refutation, steps_of_the_last_root,
+    values_from_one_refutation,
+};
 pub use runs::{bytes_taken, replies_of_a_transcript, replies_put};

@@ -31,3 +31,4 @@ pub mod PutRepliesLemmas
 pub mod CircuitShapeLemmas
 pub mod TruePartsLemmas
 pub mod DrawnStepsLemmas
+pub mod ReplyContentsLemmas

@@ -1,15 +1,16 @@
 -- The replies that a transcript is made of, and what a run has taken and put.
-use Rattle.std.proofs.Common.{◌≡◌, ◌∙◌, sym, ap, subst, refl, ℕ, zero, suc, ◌+◌, ◌<◌, ◌≤◌, List, [], ◌∷◌, ◌++◌, length, take, map, Option, Some, slice_get, arith, length-append}
+use Rattle.std.proofs.Common.{◌≡◌, ◌∙◌, sym, ap, subst, refl, ◌⊎◌, inl, inr, ℕ, zero, suc, ◌+◌, ◌<◌, ◌≤◌, List, [], ◌∷◌, ◌++◌, length, take, map, Option, Some, slice_get, arith, length-append}
 use Rattle.std.specs.List.{concat}
 use Rattle.std.proofs.Math.Seq.{take-append_seam}
 use Rattle.std.proofs.lemmas.List.{append-nil}
 use Rattle.craig_script.specs.declared.line.Line.{Line}
 use Rattle.craig_script.specs.Lines.{line_of, script_lines, whole_lines}
 use Rattle.craig_top.specs.declared.settings.Settings.{Settings}
+use Rattle.craig_top.specs.declared.status.Status.{Status}
 use Rattle.craig_top.specs.declared.status.Status.TheVariants.{Done, Usage, ReadFault, WriteFault, TooLong, NoMemory}
-use Rattle.craig_top.specs.Ending.{Promise}
+use Rattle.craig_top.specs.Ending.{EndsDone, Promise}
 use Rattle.craig_top.specs.GivenState.{State, next, after, start}
-use Rattle.craig_top.specs.PutReplies.{AreFirstReplies, AreReplies, EachIsAnswered, IsAppended, IsBrokenOff, Takes}
+use Rattle.craig_top.specs.PutReplies.{AreFirstReplies, AreReplies, EachIsAnswered, IsAppended, IsBrokenOff, IsDoneOrNoMemory, Takes}
 use Rattle.craig_top.specs.Reply.{Reply}
 use Rattle.craig_top.specs.Transcript.{BeginsTranscript, BreaksOff, Transcript}
 
@@ -121,3 +122,12 @@ module _ (settings : Settings) (bound : ℕ) (all : List ℕ) (left : Option (Li
         let p = promise all refl in
         let t = p.5 held refl in
         (t.0, t.1, subst (λ z. AreFirstReplies (start settings) (script_lines z) t.0) (sym p.2) (begun_replies (start settings) (script_lines (p.0 ++ p.1)) t.0 t.2))
+
+-- ---- how a run ends that nothing stops
+
+done_or_no_memory : (status : Status) → (status ≡ Done) ⊎ (status ≡ NoMemory) → IsDoneOrNoMemory status
+done_or_no_memory status (inl is) = ((λ no. absurd (cc)), (λ no. absurd (cc)), (λ no. absurd (cc)), (λ no. absurd (cc)))
+done_or_no_memory status (inr is) = ((λ no. absurd (cc)), (λ no. absurd (cc)), (λ no. absurd (cc)), (λ no. absurd (cc)))
+
+pub ends_done : (bound : ℕ) (status : Status) (all : List ℕ) (read_failed write_failed : Type 0) → EndsDone bound status (Some all) read_failed write_failed → length all < bound → ¬ read_failed → ¬ write_failed → IsDoneOrNoMemory status
+ends_done bound status all read_failed write_failed ends below reads writes = done_or_no_memory status (ends all refl below reads writes)

@@ -15,6 +15,7 @@ pub mod PutReplies
 pub mod Puts
 pub mod RefutationReply
 pub mod Reply
+pub mod ReplyContents
 pub mod ReplyTexts
 pub mod Sides
 pub mod StartingSettings

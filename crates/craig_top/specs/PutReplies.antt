@@ -1,7 +1,9 @@
 -- Which bytes were taken of a source, and which replies a text is made of.
-use Rattle.std.specs.Prelude.{◌≡◌, ℕ, ◌≤◌, List, ◌++◌, length, take, Option, Some, slice_get}
+use Rattle.std.specs.Prelude.{◌≡◌, ◌≢◌, ℕ, ◌≤◌, List, ◌++◌, length, take, Option, Some, slice_get}
 use Rattle.std.specs.List.{concat}
 use Rattle.craig_script.specs.declared.line.Line.{Line}
+use Rattle.craig_top.specs.declared.status.Status.{Status}
+use Rattle.craig_top.specs.declared.status.Status.TheVariants.{Usage, ReadFault, WriteFault, TooLong}
 use Rattle.craig_top.specs.GivenState.{State, after}
 use Rattle.craig_top.specs.Reply.{Reply}
 
@@ -34,3 +36,7 @@ abbrev pub IsBrokenOff : State → List Line → List ℕ → Type 0
 IsBrokenOff state lines text =
     (n : ℕ) × (line : Line) × (slice_get lines n ≡ Some line) × (whole : List ℕ) × AreReplies state (take n lines) whole
     × (front : List ℕ) × (back : List ℕ) × Reply (after state (take n lines)) line (front ++ back) × (text ≡ whole ++ front)
+
+-- the status says neither that words were refused, nor that a read or a write failed, nor that the script is too long
+abbrev pub IsDoneOrNoMemory : Status → Type 0
+IsDoneOrNoMemory status = (status ≢ Usage) × (status ≢ ReadFault) × (status ≢ WriteFault) × (status ≢ TooLong)

@@ -7,6 +7,7 @@ mod circuits;
 mod cuts;
 mod models;
 mod refutations;
+mod replies;
 mod runs;
 
 pub use circuits::{literals_of_a_circuit, strict_circuits};
@@ -16,4 +17,8 @@ pub use refutations::{
     clauses_along_a_chain, resolvents, steps_of_a_refutation, steps_of_the_last_root,
     values_from_one_refutation,
 };
-pub use runs::{bytes_taken, replies_of_a_transcript, replies_put};
+pub use replies::{
+    contents_of_a_refutation, printed_literals, replies_to_lines, states_after_lines,
+    texts_of_circuits,
+};
+pub use runs::{bytes_taken, replies_of_a_transcript, replies_put, runs_end_done};

@@ -1,12 +1,13 @@
 //! What a run has taken and put, by its status.
 
 ghost use Rattle.std.specs.Prelude.{◌≡◌, ◌≢◌, ℕ, ◌<◌, ◌≤◌, List, [], length, map, Option, Some};
+ghost use Rattle.craig_io.specs.Faults.{Rose};
 ghost use Rattle.craig_script.specs.declared.line.Line.{Line};
 ghost use Rattle.craig_script.specs.Lines.{line_of, script_lines, whole_lines};
 ghost use Rattle.craig_top.specs.declared.settings.Settings.{Settings};
-ghost use Rattle.craig_top.specs.Ending.{Promise};
+ghost use Rattle.craig_top.specs.Ending.{EndsDone, Promise};
 ghost use Rattle.craig_top.specs.GivenState.{State, start};
-ghost use Rattle.craig_top.specs.PutReplies.{AreFirstReplies, AreReplies, IsAppended, IsBrokenOff, Takes};
+ghost use Rattle.craig_top.specs.PutReplies.{AreFirstReplies, AreReplies, IsAppended, IsBrokenOff, IsDoneOrNoMemory, Takes};
 ghost use Rattle.craig_top.specs.Transcript.{BeginsTranscript, BreaksOff, Transcript};
 
 use crate::status::Status;
@@ -42,6 +43,12 @@ pub fn replies_put()
     ensures no_memory { (settings : Settings) (bound : ℕ) (all held : List ℕ) (left after : Option (List ℕ)) → Promise settings bound Status.NoMemory (Some all) left (Some held) after → IsAppended held after (AreFirstReplies (start settings) (script_lines all)) }
 {}
 
+/// A run of a told script below the bound, of which no read and no write failed, ends with no other status than `Done`
+/// or `NoMemory`.
+pub fn runs_end_done()
+    ensures { (bound : ℕ) (status : Status) (all : List ℕ) (reads more_reads writes more_writes : ℕ) → EndsDone bound status (Some all) (Rose reads more_reads) (Rose writes more_writes) → length all < bound → ¬ Rose reads more_reads → ¬ Rose writes more_writes → IsDoneOrNoMemory status }
+{}
+
 #[cfg(test)]
 mod tests {
     use super::*;
@@ -52,6 +59,7 @@ mod tests {
         replies_of_a_transcript();
         bytes_taken();
         replies_put();
+        runs_end_done();
         Ok(())
     }
 }

@@ -1,6 +1,6 @@
 -- Clauses that are found under their ids, and the list that has them.
 use Rattle.std.proofs.Common.{◌≡◌, ◌≢◌, ◌⊎◌, inl, inr, ◌↔◌, ℕ, suc, zero, ◌<◌, Bool, true, false, cond, eqb, ◌&&◌, List, [], ◌∷◌, ◌++◌, length, get_or, map, AllPairs, Contains, Option, Some, None, IsSome, refl, sym, ap, subst, ◌∙◌, arith, eqb-true}
-use Rattle.std.specs.Option.{option_map, option_map_or}
+use Rattle.std.specs.Option.{option_map}
 use Rattle.std.specs.List.{list_all}
 use Rattle.std.proofs.lemmas.List.{map-append}
 use Rattle.std.proofs.lemmas.Bool.{eqb-false}
@@ -8,6 +8,7 @@ use Rattle.craig_spec.specs.Literal.{Clause}
 use Rattle.craig_spec.specs.Truth.{Assignment, IsModel, clause_value}
 use Rattle.craig_base.specs.Arena.{FlaggedClause, LiveClause, ArenaView, IsArena, IsLive, ChangesOnly, clause_of, clause_at, literals_at, literals_of, clauses_of, with_clause}
 use Rattle.craig_spec.proofs.MemberLemmas.{Contains-later, Contains-image}
+use Rattle.craig_base.proofs.LookUpLemmas.{flagged, live-literals}
 
 abbrev live : ℕ → FlaggedClause → LiveClause
 live id c = record { id = id; clause = c }
@@ -43,14 +44,10 @@ found-at (d ∷ cs) id c k rising within at =
 pub clause_at-Contains : (a : ArenaView) (id : ℕ) (c : FlaggedClause) → IsArena a → (clause_at a id ≡ Some c) ↔ Contains a.clauses (live id c)
 clause_at-Contains a id c ok = (Contains-found a.clauses id c, λ here. found-at a.clauses id c here.0 ok.rising here.1 here.2)
 
-some-clause : (o : Option FlaggedClause) (c : Clause) → option_map (λ f. f.literals) o ≡ Some c → (f : FlaggedClause) × (o ≡ Some f) × (f.literals ≡ c)
-some-clause None c is = absurd (let no : None ≡ Some c = is in cc)
-some-clause (Some f) c is = (f, refl, let same : Some f.literals ≡ Some c = is in cc)
-
 -- its literals stand in the list of the literals
 pub Contains-clauses_of : (a : ArenaView) (id : ℕ) (c : Clause) → literals_of a id ≡ Some c → Contains (clauses_of a) c
 Contains-clauses_of a id c is =
-    let f = some-clause (clause_at a id) c is in
+    let f = flagged (clause_at a id) c is in
     subst (Contains (clauses_of a)) f.2 (Contains-image (λ (d : LiveClause). d.clause.literals) a.clauses (live id f.0) (Contains-found a.clauses id f.0 f.1))
 
 mapped-from : (cs : List LiveClause) (c : Clause) (k : ℕ) → k < length (map (λ d. d.clause.literals) cs) → get_or (map (λ d. d.clause.literals) cs) k c ≡ c → (d : LiveClause) × Contains cs d × (d.clause.literals ≡ c)
@@ -102,11 +99,6 @@ IsModel-found a s model id c is = let here = Contains-clauses_of a id c is in tr
 -- and the other way round
 pub IsModel-from_found : (a : ArenaView) (s : Assignment) → IsArena a → ((id : ℕ) (c : Clause) → literals_of a id ≡ Some c → clause_value s c ≡ true) → IsModel s (clauses_of a)
 IsModel-from_found a s ok h = IsModel-all s (clauses_of a) (λ c here. let found = literals_of-Contains a c ok here in h found.0 c found.1)
-
--- the literals of a live clause
-live-literals : (o : Option FlaggedClause) → IsSome o → option_map (λ f. f.literals) o ≡ Some (option_map_or (λ f. f.literals) o [])
-live-literals None h = absurd (let no : false ≡ true = h in cc)
-live-literals (Some f) h = refl
 
 pub literals_of-live : (a : ArenaView) (id : ℕ) → IsLive a id → literals_of a id ≡ Some (literals_at a id)
 literals_of-live a id h = live-literals (clause_at a id) h

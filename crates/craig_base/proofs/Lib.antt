@@ -3,7 +3,8 @@ pub mod ClausesLemmas
 pub mod CountingLemmas
 pub mod FoundLemmas
 pub mod LiteralsLemmas
+pub mod LookUpLemmas
 mod BoundLemmas
 mod NamesLemmas
-mod ReorderLemmas
+pub mod ReorderLemmas
 mod ValuesLemmas

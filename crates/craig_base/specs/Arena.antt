@@ -7,22 +7,30 @@ use Rattle.craig_base.specs.declared.flags.Flags.{Flags}
 
 -- a clause in the order in which its literals are kept, with its flags
 pub record FlaggedClause : Type 0 where
+  -- in the order in which they are kept
   pub literals : Clause
+  -- what a solver notes of it
   pub flags : Flags
 
 -- a clause that is live under its id
 pub record LiveClause : Type 0 where
+  -- the id that it was given
   pub id : ℕ
+  -- the clause
   pub clause : FlaggedClause
 
 -- the live clauses by rising id, and how many ids were given, the first of them 0
 pub record ArenaView : Type 0 where
+  -- the live clauses by rising id
   pub clauses : List LiveClause
+  -- how many ids were given
   pub given : ℕ
 
 -- the ids of the clauses rise, and each of them was given
 pub record IsArena (a : ArenaView) : Type 0 where
+  -- the ids of the clauses rise
   pub rising : AllPairs (λ c d. c.id < d.id) a.clauses
+  -- each of them was given
   pub below : All (λ c. c.id < a.given) a.clauses
 
 -- the clause of the list that has the id
@@ -80,11 +88,16 @@ ChangesClause old new id f = ChangesOnly old new id (option_map f (clause_at old
 
 -- the same literals in any order, and the same flags
 pub record IsReordered (c d : FlaggedClause) : Type 0 where
+  -- the same, in any order
   pub literals : SameLiterals c.literals d.literals
+  -- not even the flags changed
   pub flags : d.flags ≡ c.flags
 
 -- the same clauses under the same ids, where the literals of a clause may stand in another order
 pub record OnlyReorders (old new : ArenaView) : Type 0 where
+  -- no id was given
   pub given : new.given ≡ old.given
+  -- each clause stays but for the order of its literals
   pub stays : (id : ℕ) (c : FlaggedClause) → clause_at old id ≡ Some c → (d : FlaggedClause) × (clause_at new id ≡ Some d) × IsReordered c d
+  -- each clause stood there before but for the order of its literals
   pub stood : (id : ℕ) (d : FlaggedClause) → clause_at new id ≡ Some d → (c : FlaggedClause) × (clause_at old id ≡ Some c) × IsReordered c d

@@ -9,7 +9,9 @@ IsTautology c = (l : Literal) × Contains c l × Contains c (negation l)
 
 -- a clause in any order in which no literal stands twice, and none beside its negation
 pub record IsNormal (c : Clause) : Type 0 where
+  -- no literal stands in it twice
   pub distinct : AllPairs (λ l m. l ≢ m) c
+  -- no literal stands in it beside its negation
   pub not_tautology : ¬ IsTautology c
 
 -- each literal comes before all later ones in the order of literals

@@ -21,7 +21,9 @@ pub record MeetsLemmaRule (clauses lemmas : List Clause) : Type 0 where
   pub implied : All (λ c. Implies clauses (λ s. IsTrue (clause_value s c))) lemmas
   -- each of its variables is one of theirs
   pub known : All (λ c. (x : ℕ) → IsTrue (occurs_in_clause x c) → Occurs x clauses) lemmas
+  -- none of them is a tautology
   pub not_tautology : All (λ c. ¬ IsTautology c) lemmas
   -- none contains one of the clauses
   pub new : All (λ c. (d : Clause) → Contains clauses d → ¬ ContainsClause c d) lemmas
+  -- none has the literals of more than one other
   pub few : NoneMoreThanTwice lemmas

@@ -10,12 +10,14 @@ use std::marker::Model;
 
 #[derive(Drop)]
 struct StoredClause {
+    // in the order in which they are kept
     literals: Vec<Lit>,
+    // what the solver noted beside it
     flags: Flags,
 }
 
 impl StoredClause {
-    // Exchanges the literals at two places.
+    /// Exchanges the literals at two places.
     fn swap(&mut self, left: usize, right: usize)
         requires left { left < vec_len self.old.literals }
         requires right { right < vec_len self.old.literals }
@@ -25,7 +27,7 @@ impl StoredClause {
         self.literals.swap(left, right);
     }
 
-    // Takes the literal at the place out.
+    /// Takes the literal at the place out.
     fn shrink(&mut self, place: usize)
         requires { place < vec_len self.old.literals }
         ensures literals { self.new.literals.items ≡ remove self.old.literals.items place }
@@ -103,7 +105,7 @@ impl Arena {
         self.entries.len() as u64
     }
 
-    // The entry of the id, where a clause is live under it.
+    /// The entry of the id, where a clause is live under it.
     fn entry(&self, id: ClauseId) -> Option<&StoredClause>
         ensures entry { option_map (λ c. shown c.now) result ≡ clause_at self.now id.0 }
         ensures is_arena { IsArena self.now }

@@ -1,3 +1,5 @@
+//! A list of clauses.
+
 ghost use Rattle.std.specs.Prelude.{◌≡◌, [], ◌∷◌, ◌++◌, OnOk, OnErr};
 
 use crate::Lits;
@@ -7,6 +9,7 @@ use std::marker::Model;
 /// A list of clauses.
 #[derive(Debug, Drop)]
 pub struct Clauses {
+    // first to last
     clauses: Vec<Lits>,
 }
 

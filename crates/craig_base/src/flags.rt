@@ -1,3 +1,5 @@
+//! What a solver notes beside a clause.
+
 /// What a solver notes of a clause.
 #[derive(Clone, Copy, Debug, PartialEq, Eq, PartialOrd, Ord, Hash)]
 pub struct Flags {

@@ -1,3 +1,5 @@
+//! A literal, and its code of 32 bits.
+
 ghost use Rattle.std.specs.Prelude.{◌≡◌, ◌<◌};
 ghost use Rattle.craig_spec.specs.Literal.{negation};
 

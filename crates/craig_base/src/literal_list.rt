@@ -1,3 +1,5 @@
+//! A list of literals, as a clause.
+
 ghost use Rattle.std.specs.Prelude.{◌≡◌, [], ◌∷◌, ◌++◌, OnOk, OnErr};
 
 use crate::Lit;
@@ -7,6 +9,7 @@ use std::marker::Model;
 /// A list of literals.
 #[derive(Debug, Drop)]
 pub struct Lits {
+    // first to last
     literals: Vec<Lit>,
 }
 
@@ -29,7 +32,7 @@ impl Lits {
         }
     }
 
-    // The list of the literals in the vector.
+    /// The list of the literals in the vector.
     pub(crate) fn from_vec(literals: Vec<Lit>) -> Lits
         ensures { result ≡ literals.items }
     {

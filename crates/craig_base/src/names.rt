@@ -1,3 +1,5 @@
+//! Dense numbers for the variables of a script, by the first use of each.
+
 ghost use Rattle.std.specs.Prelude.{◌≡◌, ◌<◌, ◌≤◌, ◌↔◌, [], ◌==◌, length, slice_get, Contains, IsOk, IsNone, IfOk, IfSome, OnOk, OnErr};
 ghost use Rattle.craig_base.specs.Names.{AreNames, with_name};
 
@@ -13,6 +15,7 @@ use std::marker::Model;
 /// dense number.
 #[derive(Drop)]
 pub struct Names {
+    // the name of each dense number, at its place
     table: IndexSet<u32>,
 }
 

@@ -1,3 +1,5 @@
+//! What a clause is found to be when it is made normal.
+
 use crate::Lits;
 
 /// The normal form of a list of literals.

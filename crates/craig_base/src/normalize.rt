@@ -9,7 +9,7 @@ ghost use Rattle.craig_base.specs.NormalForms.{IsTautologyAnswer, OnClause};
 use crate::{Lit, Lits, Normal};
 use std::alloc::{AllocError, Global};
 
-// Whether two neighbours are of one variable.
+/// Whether two neighbours are of one variable.
 fn has_equal_neighbours(literals: &[Lit]) -> bool
     ensures found { OnTrue result ((k : ℕ) × (k + 1 < length literals.now) × SameVariableAt literals.now k) }
     ensures none { OnFalse result (AllAdjacentBelow (λ l m. l.var ≢ m.var) literals.now (length literals.now)) }
@@ -19,7 +19,7 @@ fn has_equal_neighbours(literals: &[Lit]) -> bool
         .any(|pair| pair[0].var() == pair[1].var())
 }
 
-// The literals in order, each once.
+/// The literals in order, each once.
 fn sorted_literals(alloc: Global, lits: &[Lit]) -> Result<Lits, AllocError>
     ensures members { IfOk result (SameLiterals lits.now) }
     ensures ascending { IfOk result IsAscending }
@@ -51,7 +51,7 @@ mod tests {
     use crate::Var;
     use std::test::Fail;
 
-    // Whether the answer is the clause of these literals, or a tautology where none are wanted.
+    /// Whether the answer is the clause of these literals, or a tautology where none are wanted.
     fn is_answer(answer: &Normal, wanted: Option<&[Lit]>) -> bool {
         match (answer, wanted) {
             (Normal::Clause(literals), Some(wanted)) => literals.as_slice() == wanted,

@@ -1,3 +1,5 @@
+//! A value for each of some variables.
+
 ghost use Rattle.std.specs.Prelude.{◌≡◌, ◌<◌, false, replicate, slice_index_or, slice_set, length, IfOk};
 
 use crate::Var;
@@ -7,6 +9,7 @@ use std::marker::Model;
 /// A truth value for each variable from 0 on, such as a model.
 #[derive(Debug, Drop)]
 pub struct Values {
+    // the value of each variable, at its place
     values: Vec<bool>,
 }
 

@@ -6,11 +6,14 @@ ghost use Rattle.craig_io.specs.Calls.{CallsMade};
 
 use std::marker::Model;
 
-// The numbers in `fails` count calls from 1, in any order. Both counters stand still at their last value.
+/// The calls of an object in memory. Both counters stand still at their last value.
 #[derive(Drop)]
 pub(crate) struct Calls {
+    // the numbers of the calls that are to fail, in any order; the first call has 1
     fails: Vec<u64>,
+    // how many calls were made
     made: u64,
+    // how many of them failed
     pub(crate) faults: u64,
 }
 
@@ -23,6 +26,7 @@ impl Model for Calls {
 }
 
 impl Calls {
+    /// No call was made yet.
     pub fn new(fails: Vec<u64>) -> Calls
         ensures { result ≡ record { fails = fails.items; made = 0; faults = 0 } }
     {
@@ -33,7 +37,7 @@ impl Calls {
         }
     }
 
-    // Counts a call, and says whether it is one that is to fail.
+    /// Counts a call, and says whether it is one that is to fail.
     pub fn next_fails(&mut self) -> bool
         ensures listed { IsTrue result ↔ Contains self.old.fails (raised self.old.made) }
         ensures counted { self.new ≡ record self.old { made = raised self.old.made } }
@@ -43,7 +47,7 @@ impl Calls {
         self.fails.contains(&self.made)
     }
 
-    // Counts a fault.
+    /// Counts a fault.
     pub fn fault(&mut self)
         ensures { self.new ≡ record self.old { faults = raised self.old.faults } }
     {

@@ -19,9 +19,13 @@ use std::marker::Model;
 /// It serves tests, and it tells its bytes.
 #[derive(Drop)]
 pub struct MemSink {
+    // the bytes written, those written first at the front
     held: Vec<u8>,
+    // how many bytes there is room for
     room: usize,
+    // how many bytes a write takes at most
     piece: usize,
+    // the writes so far, and those that are to fail
     calls: Calls,
 }
 
@@ -110,7 +114,7 @@ mod tests {
     use crate::put::put_all;
     use std::test::Fail;
 
-    // The bytes written are `abc`.
+    /// The bytes written are `abc`.
     #[test]
     fn put_all_appends_all_or_a_prefix_and_then_counts_a_fault(
         rt: HostRuntime,

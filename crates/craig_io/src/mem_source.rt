@@ -17,9 +17,13 @@ use std::marker::Model;
 /// It serves tests, and it tells its bytes.
 #[derive(Drop)]
 pub struct MemSource {
+    // all bytes, those that were given too
     bytes: Vec<u8>,
+    // how many bytes were given
     at: usize,
+    // how many bytes a read gives at most
     piece: usize,
+    // the reads so far, and those that are to fail
     calls: Calls,
 }
 

@@ -19,7 +19,9 @@ use std::marker::Model;
 /// late or never.
 #[derive(Drop)]
 pub struct StdSink<W> {
+    // the writer of std
     inner: W,
+    // how many errors it gave, and how often it took nothing
     faults: u64,
 }
 

@@ -18,7 +18,9 @@ use std::marker::Model;
 /// or a file.
 #[derive(Drop)]
 pub struct StdSource<R> {
+    // the reader of std
     inner: R,
+    // how many errors it gave
     faults: u64,
 }
 

@@ -1,34 +1,28 @@
 -- What a caller of a tracer knows after a step.
 use Rattle.std.proofs.Common.{◌≡◌, ℕ, suc, zero, ◌<◌, Bool, true, false, not, ◌&&◌, ◌||◌, eqb, eq-eqb, List, [], ◌∷◌, ◌++◌, All, Contains, Option, Some, None, refl, ap, sym, subst, ◌∙◌, arith, inl, inr}
 use Rattle.std.specs.Option.{is_some}
+use Rattle.std.proofs.Math.Bool.{or-true}
+use Rattle.craig_spec.proofs.MemberLemmas.{Contains-one}
 use Rattle.craig_spec.specs.Literal.{Literal, negation}
 use Rattle.craig_spec.specs.Chain.{ChainOk, clause_told, IsUnforgotten, IsResolvent, Told, ToldStep, nothing_told, with_step}
 use Rattle.craig_proof.specs.Tracer.{Appends, original_step}
-
--- what was told before the step
-pub before_step : (a b : Option Told) (s : ToldStep) (x : Told) → Appends a b s → b ≡ Some x → (t : Told) × (a ≡ Some t) × (x ≡ with_step t s)
-before_step None b s x appends is = absurd (cc)
-before_step (Some t) b s x appends is = (t, refl, cc)
+use Rattle.craig_proof.proofs.AppendsLemmas.{before_step}
 
 -- the greatest id is that of the step
 pub greatest_is : (t : Told) (s : ToldStep) (x : Told) (g : ℕ) → x ≡ with_step t s → x.greatest ≡ Some g → g ≡ s.id
 greatest_is t s x g e h = let h2 : Some s.id ≡ Some g = sym (ap (λ (u : Told). u.greatest) e) ∙ h in cc
-
-only_member : (l m : Literal) → Contains (l ∷ []) m → m ≡ l
-only_member l m (zero, within, at) = sym at
-only_member l m (suc k, within, at) = absurd (omega arith)
 
 -- a literal and its negation give the empty clause
 pub IsResolvent-units : (l : Literal) → IsResolvent l (l ∷ []) (negation l ∷ []) []
 IsResolvent-units l = record {
   first_has = (0, omega arith, refl);
   second_has = (0, omega arith, refl);
-  no_other = λ m here there. only_member l m here;
+  no_other = λ m here there. sym (Contains-one l m here);
   literals = λ m. (
     λ (k, within, at). absurd (let no : k < 0 = within in omega arith),
     λ h. elim h [
-      | inl first ↦ absurd (first.1 (only_member l m first.0))
-      | inr second ↦ absurd (second.1 (only_member (negation l) m second.0))
+      | inl first ↦ absurd (first.1 (sym (Contains-one l m first.0)))
+      | inr second ↦ absurd (second.1 (sym (Contains-one (negation l) m second.0)))
     ],
   );
 }
@@ -52,13 +46,9 @@ IsUnforgotten-units c d p q others zero e within = refl
 IsUnforgotten-units c d p q others (suc zero) e within = refl
 IsUnforgotten-units c d p q others (suc (suc k)) e within = absurd (omega arith)
 
-or_true : (b : Bool) → (b || true) ≡ true
-or_true true = refl
-or_true false = refl
-
 pub unforgotten_pushed : (steps : List ToldStep) (s : ToldStep) → s.forgotten ≡ false → IsUnforgotten (steps ++ s ∷ []) s.id
 unforgotten_pushed [] s f = rw (eq-eqb s.id s.id refl, f) refl
-unforgotten_pushed (r ∷ steps) s f = rw (unforgotten_pushed steps s f) (or_true (eqb r.id s.id && not r.forgotten))
+unforgotten_pushed (r ∷ steps) s f = rw (unforgotten_pushed steps s f) (or-true (eqb r.id s.id && not r.forgotten))
 
 -- the last step that was told is not forgotten
 pub IsUnforgotten-last : (a b : Option Told) (s : ToldStep) → Appends a b s → is_some a ≡ true → s.forgotten ≡ false → (u : Told) × (b ≡ Some u) × IsUnforgotten u.steps s.id

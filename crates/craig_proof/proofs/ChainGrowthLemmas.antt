@@ -1,6 +1,10 @@
 -- Chains over a look-up: what they name, and how they grow.
 use Rattle.std.proofs.Common.{◌≡◌, ◌⊎◌, inl, inr, ℕ, suc, zero, Bool, true, false, not, eqb, ◌||◌, List, [], ◌∷◌, ◌++◌, map, Contains, Option, Some, refl, sym, ap, subst, ◌∙◌, arith, eqb-true, eq-eqb}
 use Rattle.std.proofs.lemmas.List.{map-append}
+use Rattle.craig_spec.proofs.ToldLemmas.{IsChain-given}
+use Rattle.craig_spec.proofs.MemberLemmas.{Contains-front, Contains-later}
+use Rattle.craig_spec.proofs.LiteralLemmas.{negation_twice}
+use Rattle.craig_spec.proofs.ClauseLemmas.{SameLiterals-refl, occurs_in_clause-find, occurs_in_clause-member}
 use Rattle.craig_spec.specs.Literal.{Literal, Clause, negation}
 use Rattle.craig_spec.specs.Occurs.{occurs_in_clause}
 use Rattle.craig_spec.specs.Chain.{ChainStep, Derived, antecedents, SameLiterals, IsResolvent, IsChain, ChainOk}
@@ -8,8 +12,7 @@ use Rattle.craig_base.specs.Clauses.{IsTautology}
 use Rattle.craig_proof.specs.declared.step.Step.{Step}
 use Rattle.craig_proof.specs.Tracer.{chain_of}
 use Rattle.craig_proof.specs.Covers.{GivesSome}
-use Rattle.craig_proof.proofs.ChainLemmas.{SameLiterals-itself, IsResolvent-same}
-use Rattle.craig_proof.proofs.FollowsLemmas.{Contains-front, Contains-later}
+use Rattle.craig_proof.proofs.ChainLemmas.{IsResolvent-same}
 
 abbrev named : List ChainStep → List ℕ
 named rest = map (λ s. s.antecedent) rest
@@ -44,51 +47,16 @@ pub ChainOk-literal : (f : ℕ → Option Clause) (literals : Clause) (first : �
 ChainOk-literal f literals first rest chain l here =
     first-literal f first (named rest) chain.start l chain.start_is (chain-literal f chain.start rest literals l chain.chain here)
 
--- a clause has a variable by one of its literals
-occurs-cases : (x : ℕ) (l : Literal) (c : Clause) (b : Bool) → eqb x l.var ≡ b → (b || occurs_in_clause x c) ≡ true → (occurs_in_clause x c ≡ true → (m : Literal) × (m.var ≡ x) × Contains c m) → (m : Literal) × (m.var ≡ x) × Contains (l ∷ c) m
-occurs-cases x l c true is h later = (l, sym (eqb-true x l.var is), Contains-front l c)
-occurs-cases x l c false is h later = let p = later h in (p.0, p.1, Contains-later l c p.0 p.2)
-
-literal-occurs : (x : ℕ) (c : Clause) → occurs_in_clause x c ≡ true → (m : Literal) × (m.var ≡ x) × Contains c m
-literal-occurs x [] h = absurd (let no : false ≡ true = h in cc)
-literal-occurs x (l ∷ c) h = occurs-cases x l c (eqb x l.var) refl h (literal-occurs x c)
-
-or-true : (b : Bool) → (b || true) ≡ true
-or-true true = refl
-or-true false = refl
-
-occurs-at : (x : ℕ) (c : Clause) (m : Literal) → m.var ≡ x → Contains c m → occurs_in_clause x c ≡ true
-occurs-at x [] m is (k, within, at) = absurd (omega arith)
-occurs-at x (l ∷ c) m is (zero, within, at) = rw (eq-eqb x l.var (sym (ap (λ (n : Literal). n.var) at ∙ is))) refl
-occurs-at x (l ∷ c) m is (suc k, within, at) = rw (occurs-at x c m is (k, omega arith, at)) (or-true (eqb x l.var))
-
 -- so each of its variables occurs in one
 pub ChainOk-variable : (f : ℕ → Option Clause) (literals : Clause) (first : ℕ) (rest : List ChainStep) → ChainOk f literals first rest → (x : ℕ) → occurs_in_clause x literals ≡ true → GivesSome f (antecedents (Derived first rest)) (λ c. occurs_in_clause x c ≡ true)
 ChainOk-variable f literals first rest chain x h =
-    let m = literal-occurs x literals h in
-    let g = ChainOk-literal f literals first rest chain m.0 m.2 in
-    record { id = g.id; named = g.named; clause = g.clause; given = g.given; holds = occurs-at x g.clause m.0 m.1 g.holds }
-
--- the look-up gives a clause of each id that a chain names
-chain-given : (f : ℕ → Option Clause) (c : Clause) (rest : List ChainStep) (last : Clause) (x : ℕ) → IsChain f c rest last → Contains (named rest) x → (d : Clause) × (f x ≡ Some d)
-chain-given f c [] last x chain (k, within, at) = absurd (omega arith)
-chain-given f c (s ∷ rest) last x (d, r, is, resolved, more) (zero, within, at) = (d, subst (λ (y : ℕ). f y ≡ Some d) at is)
-chain-given f c (s ∷ rest) last x (d, r, is, resolved, more) (suc k, within, at) = chain-given f r rest last x more (k, omega arith, at)
-
-given-cases : (f : ℕ → Option Clause) (first : ℕ) (rest : List ChainStep) (literals start : Clause) (x : ℕ) → f first ≡ Some start → IsChain f start rest literals → Contains (first ∷ named rest) x → (d : Clause) × (f x ≡ Some d)
-given-cases f first rest literals start x is chain (zero, within, at) = (start, subst (λ (y : ℕ). f y ≡ Some start) at is)
-given-cases f first rest literals start x is chain (suc k, within, at) = chain-given f start rest literals x chain (k, omega arith, at)
+    let m = occurs_in_clause-find x literals h in
+    let g = ChainOk-literal f literals first rest chain m.0 m.1 in
+    record { id = g.id; named = g.named; clause = g.clause; given = g.given; holds = occurs_in_clause-member x g.clause m.0 g.holds m.2 }
 
 pub ChainOk-given : (f : ℕ → Option Clause) (literals : Clause) (first : ℕ) (rest : List ChainStep) → ChainOk f literals first rest → (x : ℕ) → Contains (antecedents (Derived first rest)) x → (c : Clause) × (f x ≡ Some c)
-ChainOk-given f literals first rest chain x here = given-cases f first rest literals chain.start x chain.start_is chain.chain here
-
--- a resolvent of clauses that are no tautologies is none
-negation_twice-sign : (b : Bool) → not (not b) ≡ b
-negation_twice-sign true = refl
-negation_twice-sign false = refl
-
-negation_twice : (l : Literal) → negation (negation l) ≡ l
-negation_twice l = λ i. record { var = l.var; negated = negation_twice-sign l.negated i }
+ChainOk-given f literals first rest chain x (zero, within, at) = (chain.start, subst (λ (y : ℕ). f y ≡ Some chain.start) at chain.start_is)
+ChainOk-given f literals first rest chain x (suc k, within, at) = IsChain-given f chain.start rest literals x chain.chain (k, omega (arith, within), at)
 
 not_tautology-step : (p : Literal) (c d r : Clause) → IsResolvent p c d r → ¬ IsTautology c → ¬ IsTautology d → ¬ IsTautology r
 not_tautology-step p c d r resolved c_not d_not (l, here, there) =
@@ -114,12 +82,12 @@ ChainOk-not_tautology f literals first rest chain known =
 
 -- a chain of no step
 pub ChainOk-start : (f : ℕ → Option Clause) (c : Clause) (first : ℕ) → f first ≡ Some c → ChainOk f c first []
-ChainOk-start f c first is = record { start = c; start_is = is; chain = SameLiterals-itself c }
+ChainOk-start f c first is = record { start = c; start_is = is; chain = SameLiterals-refl c }
 
 -- one step more
 IsChain-push : (f : ℕ → Option Clause) (c : Clause) (rest : List ChainStep) (mid d last : Clause) (s : ChainStep) → IsChain f c rest mid → f s.antecedent ≡ Some d → IsResolvent s.pivot mid d last → IsChain f c (rest ++ s ∷ []) last
 IsChain-push f c [] mid d last s chain is resolved =
-    (d, last, is, IsResolvent-same s.pivot mid c d d last (λ l. ((chain l).1, (chain l).0)) (SameLiterals-itself d) resolved, SameLiterals-itself last)
+    (d, last, is, IsResolvent-same s.pivot mid c d d last (λ l. ((chain l).1, (chain l).0)) (SameLiterals-refl d) resolved, SameLiterals-refl last)
 IsChain-push f c (q ∷ rest) mid d last s (e, r, found, joined, more) is resolved = (e, r, found, joined, IsChain-push f r rest mid d last s more is resolved)
 
 pub ChainOk-push : (f : ℕ → Option Clause) (literals : Clause) (first : ℕ) (rest : List Step) (s : Step) (d resolvent : Clause) → ChainOk f literals first (chain_of rest) → f s.antecedent.0 ≡ Some d → IsResolvent s.pivot literals d resolvent → ChainOk f resolvent first (chain_of (rest ++ s ∷ []))

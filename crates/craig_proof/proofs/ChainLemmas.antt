@@ -1,10 +1,8 @@
 -- Chains over one look-up and over another.
 use Rattle.std.proofs.Common.{◌≡◌, ℕ, suc, List, [], ◌∷◌, Contains, Option, map, refl, ◌∙◌, arith, inl, inr}
+use Rattle.craig_spec.proofs.ClauseLemmas.{SameLiterals-refl}
 use Rattle.craig_spec.specs.Literal.{Literal, Clause, negation}
 use Rattle.craig_spec.specs.Chain.{ChainStep, Origin, Original, Derived, ToldStep, antecedents, clause_told, SameLiterals, GivesSame, IsResolvent, IsChain, ChainOk, StandsOn}
-
-pub SameLiterals-itself : (c : Clause) → SameLiterals c c
-SameLiterals-itself c l = (λ h. h, λ h. h)
 
 -- a resolvent of two clauses is one of two others with the same literals
 pub IsResolvent-same : (p : Literal) (c c2 d d2 r : Clause) → SameLiterals c c2 → SameLiterals d d2 → IsResolvent p c d r → IsResolvent p c2 d2 r
@@ -29,7 +27,7 @@ module _ (f g : ℕ → Option Clause) where
   IsChain-same c c2 [] last cs gives h = λ l. (λ here. (h l).0 ((cs l).1 here), λ here. (cs l).0 ((h l).1 here))
   IsChain-same c c2 (s ∷ rest) last cs gives (d, r, is, resolved, more) =
       let there = gives s.antecedent (0, omega arith, refl) d is in
-      (there.0, r, there.1, IsResolvent-same s.pivot c c2 d there.0 r cs there.2 resolved, IsChain-same r r rest last (SameLiterals-itself r) (λ x here. gives x (suc here.0, omega (arith, here.1), here.2)) more)
+      (there.0, r, there.1, IsResolvent-same s.pivot c c2 d there.0 r cs there.2 resolved, IsChain-same r r rest last (SameLiterals-refl r) (λ x here. gives x (suc here.0, omega (arith, here.1), here.2)) more)
 
   -- a chain over the first look-up is one over the second, where it gives the same for each id that the chain names
   pub ChainOk-same : (literals : Clause) (first : ℕ) (rest : List ChainStep) → ((x : ℕ) → Contains (antecedents (Derived first rest)) x → GivesSame f g x) → ChainOk f literals first rest → ChainOk g literals first rest
@@ -45,4 +43,4 @@ module _ (f g : ℕ → Option Clause) where
 pub StandsOn-same : (before after : List ToldStep) (c : Clause) (origin : Origin) → ((x : ℕ) → Contains (antecedents origin) x → clause_told after x ≡ clause_told before x) → StandsOn before c origin → StandsOn after c origin
 StandsOn-same before after c (Original part) same h = h
 StandsOn-same before after c (Derived first rest) same h =
-    ChainOk-same (clause_told before) (clause_told after) c first rest (λ x here d is. (d, same x here ∙ is, SameLiterals-itself d)) h
+    ChainOk-same (clause_told before) (clause_told after) c first rest (λ x here d is. (d, same x here ∙ is, SameLiterals-refl d)) h

@@ -4,42 +4,24 @@ use Rattle.std.specs.List.{filter, list_any}
 use Rattle.std.specs.Option.{ForSome, option_map, is_some}
 use Rattle.std.proofs.lemmas.Bool.{eqb-false}
 use Rattle.std.proofs.lemmas.List.Elements.{Contains-get_or}
+use Rattle.craig_spec.proofs.ToldLemmas.{clause_told-pushed, clause_told-last, IsUnforgotten-pushed}
+use Rattle.craig_spec.proofs.ClauseLemmas.{SameLiterals-trans}
 use Rattle.craig_spec.specs.Literal.{Clause}
 use Rattle.craig_spec.specs.Chain.{ChainStep, Derived, ToldStep, Told, antecedents, clause_told, forgotten_at, nothing_told, with_step, without_id, IsUnforgotten, IsAbove, SameLiterals, GivesSame, ChainOk, StandsOn}
 use Rattle.craig_spec.specs.Needed.{Reclaims}
 use Rattle.craig_proof.specs.declared.step.Step.{Step}
 use Rattle.craig_proof.specs.Tracer.{chain_of, original_step, derived_step, Appends}
 use Rattle.craig_proof.specs.Covers.{Covers, IsCovering, IsOldOrNext}
-use Rattle.craig_proof.proofs.CallerLemmas.{before_step, unforgotten_pushed}
+use Rattle.craig_proof.proofs.AppendsLemmas.{before_step, before_forgotten, told_before}
+use Rattle.craig_proof.proofs.CallerLemmas.{unforgotten_pushed}
 use Rattle.craig_proof.proofs.ChainLemmas.{ChainOk-same}
 use Rattle.craig_proof.proofs.ChainGrowthLemmas.{ChainOk-given}
 use Rattle.craig_proof.proofs.ToldLemmas.{IsTold-nothing, IsTold-with_step, IsTold-without_id, clause_told-forgotten}
 use Rattle.craig_proof.proofs.ReclaimLemmas.{IsTold-reclaims, clause_told-left}
 
--- what was told under an id stays when one more step is told
-told-pushed-cases : (b : Bool) (s r : ToldStep) (steps : List ToldStep) (x : ℕ) (c : Clause) → cond b (Some r.literals) (clause_told steps x) ≡ Some c → (clause_told steps x ≡ Some c → clause_told (steps ++ s ∷ []) x ≡ Some c) → cond b (Some r.literals) (clause_told (steps ++ s ∷ []) x) ≡ Some c
-told-pushed-cases true s r steps x c is later = is
-told-pushed-cases false s r steps x c is later = later is
-
-clause_told-pushed : (steps : List ToldStep) (s : ToldStep) (x : ℕ) (c : Clause) → clause_told steps x ≡ Some c → clause_told (steps ++ s ∷ []) x ≡ Some c
-clause_told-pushed [] s x c is = absurd (let no : None ≡ Some c = is in cc)
-clause_told-pushed (r ∷ steps) s x c is = told-pushed-cases (eqb r.id x) s r steps x c is (clause_told-pushed steps s x c)
-
--- and the new one is found under its id
-clause_told-last : (steps : List ToldStep) (s : ToldStep) → All (λ r. r.id < s.id) steps → clause_told (steps ++ s ∷ []) s.id ≡ Some s.literals
-clause_told-last [] s below = rw (eq-eqb s.id s.id refl) refl
-clause_told-last (r ∷ steps) s below =
-    let low : r.id < s.id = below 0 r (omega arith) in
-    rw (ne_eqb r.id s.id (λ same. omega arith)) (clause_told-last steps s (λ k d w. below (suc k) d (omega arith)))
-
 or-left : (b c d : Bool) → (c ≡ true → d ≡ true) → (b || c) ≡ true → (b || d) ≡ true
 or-left true c d more h = refl
 or-left false c d more h = more h
-
-IsUnforgotten-pushed : (steps : List ToldStep) (s : ToldStep) (x : ℕ) → IsUnforgotten steps x → IsUnforgotten (steps ++ s ∷ []) x
-IsUnforgotten-pushed [] s x h = absurd (let no : false ≡ true = h in cc)
-IsUnforgotten-pushed (r ∷ steps) s x h =
-    or-left (eqb r.id x && not r.forgotten) (list_any (λ q. eqb q.id x && not q.forgotten) steps) (list_any (λ q. eqb q.id x && not q.forgotten) (steps ++ s ∷ [])) (IsUnforgotten-pushed steps s x) h
 
 -- a mark at another id changes nothing
 mark-elsewhere : (b : Bool) (id x : ℕ) (s : ToldStep) → eqb s.id id ≡ b → id ≢ x → (eqb (cond b (record { id = s.id; literals = s.literals; origin = s.origin; forgotten = true }) s).id x && not (cond b (record { id = s.id; literals = s.literals; origin = s.origin; forgotten = true }) s).forgotten) ≡ (eqb s.id x && not s.forgotten)
@@ -79,9 +61,6 @@ Covers-nothing f given none = record {
   unforgotten = λ id c is. absurd (let no : None ≡ Some c = sym (none id) ∙ is in cc);
 }
 
-SameLiterals-through : (c d e : Clause) → SameLiterals c d → SameLiterals d e → SameLiterals c e
-SameLiterals-through c d e one two l = (λ h. (two l).0 ((one l).0 h), λ h. (one l).1 ((two l).1 h))
-
 -- fewer clauses, with their literals in any order, and more ids
 pub Covers-fewer : (t : Told) (f g : ℕ → Option Clause) (given more : ℕ) → Covers t f given → given ≤ more → ((id : ℕ) → GivesSame g f id) → Covers t g more
 Covers-fewer t f g given more covers le sub = record {
@@ -90,7 +69,7 @@ Covers-fewer t f g given more covers le sub = record {
   same = λ id c is.
       let old = sub id c is in
       let told = covers.same id old.0 old.1 in
-      (told.0, told.1, SameLiterals-through c old.0 told.0 old.2 told.2);
+      (told.0, told.1, SameLiterals-trans c old.0 told.0 old.2 told.2);
   unforgotten = λ id c is. let old = sub id c is in covers.unforgotten id old.0 old.1;
 }
 
@@ -107,7 +86,7 @@ pushed-same true t f g given s covers is old id at c found =
 pushed-same false t f g given s covers is old id at c found =
     let was = old.others id (eqb-false id given at) c found in
     let told = covers.same id was.0 was.1 in
-    (told.0, clause_told-pushed t.steps s id told.0 told.1, SameLiterals-through c was.0 told.0 was.2 told.2)
+    (told.0, clause_told-pushed t.steps s id told.0 told.1, SameLiterals-trans c was.0 told.0 was.2 told.2)
 
 pushed-unforgotten : (b : Bool) (t : Told) (f g : ℕ → Option Clause) (given : ℕ) (s : ToldStep) → Covers t f given → s.id ≡ given → s.forgotten ≡ false → IsOldOrNext f g given s.literals → (id : ℕ) → eqb id given ≡ b → (c : Clause) → g id ≡ Some c → IsUnforgotten (t.steps ++ s ∷ []) id
 pushed-unforgotten true t f g given s covers is kept old id at c found =
@@ -175,13 +154,9 @@ Covers-forgotten t f given id covers none = record {
       IsUnforgotten-elsewhere id x t.steps (λ e. (let no : None ≡ Some c = sym none ∙ ap f e ∙ found in cc)) (covers.unforgotten x c found);
 }
 
-forgotten-before : (before after : Option Told) (id : ℕ) (u : Told) → after ≡ option_map (without_id id) before → after ≡ Some u → (t : Told) × (before ≡ Some t) × (u ≡ without_id id t)
-forgotten-before None after id u is at = absurd (let no : None ≡ Some u = sym is ∙ at in cc)
-forgotten-before (Some t) after id u is at = (t, refl, let e : Some u ≡ Some (without_id id t) = sym at ∙ is in cc)
-
 pub IsCovering-forgotten : (before after : Option Told) (f : ℕ → Option Clause) (given id : ℕ) → IsCovering before f given → after ≡ option_map (without_id id) before → f id ≡ None → IsCovering after f given
 IsCovering-forgotten before after f given id covers is none u at =
-    let was = forgotten-before before after id u is at in
+    let was = before_forgotten before after id u is at in
     subst (λ (v : Told). Covers v f given) (sym was.2) (Covers-forgotten was.0 f given id (covers was.0 was.1) none)
 
 -- steps are given up
@@ -199,13 +174,9 @@ Covers-reclaimed t u f given covers r =
           subst (λ (steps : List ToldStep). IsUnforgotten steps x) (sym r.steps) (IsUnforgotten-left r.kept t.steps x (left x c found) (covers.unforgotten x c found));
     }
 
-told-still : (before after : Option Told) (u : Told) → is_some after ≡ is_some before → after ≡ Some u → (t : Told) × (before ≡ Some t)
-told-still None after u tells at = absurd (let no : true ≡ false = sym (ap is_some at) ∙ tells in cc)
-told-still (Some t) after u tells at = (t, refl)
-
 pub IsCovering-reclaimed : (before after : Option Told) (f : ℕ → Option Clause) (given : ℕ) → IsCovering before f given → is_some after ≡ is_some before → ((t : Told) → before ≡ Some t → (u : Told) × (after ≡ Some u) × Reclaims t u) → IsCovering after f given
 IsCovering-reclaimed before after f given covers tells reclaims v at =
-    let was = told-still before after v tells at in
+    let was = told_before before after v tells at in
     let r = reclaims was.0 was.1 in
     let same : r.0 ≡ v = (let e : Some r.0 ≡ Some v = sym r.1 ∙ at in cc) in
     subst (λ (w : Told). Covers w f given) same (Covers-reclaimed was.0 r.0 f given (covers was.0 was.1) r.2)

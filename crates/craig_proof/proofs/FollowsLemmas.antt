@@ -2,53 +2,14 @@
 use Rattle.std.proofs.Common.{◌≡◌, ℕ, suc, zero, ◌<◌, Bool, true, false, cond, not, ◌||◌, eqb, List, [], ◌∷◌, length, get_or, take, map, Contains, Option, Some, length-take, refl, ap, sym, ◌∙◌, arith, eqb-true, ◌⊎◌, inl, inr}
 use Rattle.std.proofs.lemmas.List.{get_or_default, get_or-take}
 use Rattle.std.proofs.lemmas.Bool.{eqb-false}
+use Rattle.craig_spec.proofs.ToldLemmas.{IsNeeded-below}
+use Rattle.craig_spec.proofs.MemberLemmas.{Contains-front, Contains-later}
+use Rattle.craig_spec.proofs.LiteralLemmas.{same_or_not}
+use Rattle.craig_spec.proofs.ClauseLemmas.{clause_value-find, clause_value-member}
 use Rattle.craig_spec.specs.Literal.{Literal, Clause, negation}
 use Rattle.craig_spec.specs.Truth.{Assignment, literal_value, clause_value, variable_value}
 use Rattle.craig_spec.specs.Chain.{ChainStep, Origin, Original, Derived, ToldStep, Told, antecedents, clause_told, IsResolvent, IsChain, ChainOk, StandsOn, IsTold}
 use Rattle.craig_spec.specs.Needed.{IsNeeded, OriginalsHold, AllFollow}
-
--- one more member in front
-pub Contains-front : {A : Type 0} (x : A) (xs : List A) → Contains (x ∷ xs) x
-Contains-front x xs = (0, omega arith, refl)
-
-pub Contains-later : {A : Type 0} (y : A) (xs : List A) (x : A) → Contains xs x → Contains (y ∷ xs) x
-Contains-later y xs x (k, within, at) = (suc k, omega arith, at)
-
--- a clause is true by one of its literals
-true_literal-cases : (a : Assignment) (l : Literal) (c : Clause) (b : Bool) → literal_value a l ≡ b → (b || clause_value a c) ≡ true → (clause_value a c ≡ true → (m : Literal) × Contains c m × (literal_value a m ≡ true)) → (m : Literal) × Contains (l ∷ c) m × (literal_value a m ≡ true)
-true_literal-cases a l c true e h later = (l, Contains-front l c, e)
-true_literal-cases a l c false e h later = let p = later h in (p.0, Contains-later l c p.0 p.1, p.2)
-
-true_literal : (a : Assignment) (c : Clause) → clause_value a c ≡ true → (m : Literal) × Contains c m × (literal_value a m ≡ true)
-true_literal a [] h = absurd (cc)
-true_literal a (l ∷ c) h = true_literal-cases a l c (literal_value a l) refl h (true_literal a c)
-
-or-true : (b : Bool) → (b || true) ≡ true
-or-true true = refl
-or-true false = refl
-
-true_clause-at : (a : Assignment) (c : Clause) (k : ℕ) (l : Literal) → k < length c → get_or c k l ≡ l → literal_value a l ≡ true → clause_value a c ≡ true
-true_clause-at a [] k l within at h = absurd (omega arith)
-true_clause-at a (m ∷ c) zero l within at h = rw (at, h) refl
-true_clause-at a (m ∷ c) (suc k) l within at h = rw (true_clause-at a c k l (omega arith) at h) (or-true (literal_value a m))
-
-true_clause : (a : Assignment) (c : Clause) (l : Literal) → Contains c l → literal_value a l ≡ true → clause_value a c ≡ true
-true_clause a c l here h = true_clause-at a c here.0 l here.1 here.2 h
-
--- two literals are the same or not
-same_signs : (a b : Bool) → (a ≡ b) ⊎ (a ≡ b → ⊥)
-same_signs true true = inl refl
-same_signs true false = inr (λ e. cc)
-same_signs false true = inr (λ e. cc)
-same_signs false false = inl refl
-
-same_literals-cases : (l m : Literal) (b : Bool) → eqb l.var m.var ≡ b → (l.negated ≡ m.negated) ⊎ (l.negated ≡ m.negated → ⊥) → (l ≡ m) ⊎ (l ≡ m → ⊥)
-same_literals-cases l m true e (inl s) = inl (let v : l.var ≡ m.var = eqb-true l.var m.var e in λ i. record { var = v i; negated = s i })
-same_literals-cases l m true e (inr s) = inr (λ same. s (ap (λ (x : Literal). x.negated) same))
-same_literals-cases l m false e s = inr (λ same. eqb-false l.var m.var e (ap (λ (x : Literal). x.var) same))
-
-same_literals : (l m : Literal) → (l ≡ m) ⊎ (l ≡ m → ⊥)
-same_literals l m = same_literals-cases l m (eqb l.var m.var) refl (same_signs l.negated m.negated)
 
 -- a literal and its negation aren't both true
 not_both-signs : (v n : Bool) → cond n (not v) v ≡ true → cond (not n) (not v) v ≡ true → ⊥
@@ -63,21 +24,21 @@ not_both a l h k = not_both-signs (variable_value a l.var) l.negated h k
 -- a resolvent is true where both clauses are
 resolvent-second : (a : Assignment) (p : Literal) (c d r : Clause) → IsResolvent p c d r → literal_value a p ≡ true → (m : Literal) → Contains d m → literal_value a m ≡ true → (m ≡ negation p) ⊎ (m ≡ negation p → ⊥) → clause_value a r ≡ true
 resolvent-second a p c d r resolved pivot m here h (inl same) = absurd (not_both a p pivot (rw same at h))
-resolvent-second a p c d r resolved pivot m here h (inr other) = true_clause a r m ((resolved.literals m).1 (inr (here, other))) h
+resolvent-second a p c d r resolved pivot m here h (inr other) = clause_value-member a r m ((resolved.literals m).1 (inr (here, other))) h
 
 resolvent-first : (a : Assignment) (p : Literal) (c d r : Clause) → IsResolvent p c d r → clause_value a d ≡ true → (l : Literal) → Contains c l → literal_value a l ≡ true → (l ≡ p) ⊎ (l ≡ p → ⊥) → clause_value a r ≡ true
 resolvent-first a p c d r resolved second l here h (inl same) =
-    let t = true_literal a d second in resolvent-second a p c d r resolved (rw same at h) t.0 t.1 t.2 (same_literals t.0 (negation p))
-resolvent-first a p c d r resolved second l here h (inr other) = true_clause a r l ((resolved.literals l).1 (inl (here, other))) h
+    let t = clause_value-find a d second in resolvent-second a p c d r resolved (rw same at h) t.0 t.1 t.2 (same_or_not t.0 (negation p))
+resolvent-first a p c d r resolved second l here h (inr other) = clause_value-member a r l ((resolved.literals l).1 (inl (here, other))) h
 
 resolvent_true : (a : Assignment) (p : Literal) (c d r : Clause) → IsResolvent p c d r → clause_value a c ≡ true → clause_value a d ≡ true → clause_value a r ≡ true
 resolvent_true a p c d r resolved first second =
-    let t = true_literal a c first in resolvent-first a p c d r resolved second t.0 t.1 t.2 (same_literals t.0 p)
+    let t = clause_value-find a c first in resolvent-first a p c d r resolved second t.0 t.1 t.2 (same_or_not t.0 p)
 
 -- so is what a chain gives
 chain_true : (a : Assignment) (f : ℕ → Option Clause) (c : Clause) (rest : List ChainStep) (last : Clause) → IsChain f c rest last → ((x : ℕ) (d : Clause) → Contains (map (λ s. s.antecedent) rest) x → f x ≡ Some d → clause_value a d ≡ true) → clause_value a c ≡ true → clause_value a last ≡ true
 chain_true a f c [] last chain known h =
-    let t = true_literal a c h in true_clause a last t.0 ((chain t.0).0 t.1) t.2
+    let t = clause_value-find a c h in clause_value-member a last t.0 ((chain t.0).0 t.1) t.2
 chain_true a f c (s ∷ rest) last (d, r, e, resolved, more) known h =
     let second : clause_value a d ≡ true = known s.antecedent d (Contains-front s.antecedent (map (λ q. q.antecedent) rest)) e in
     chain_true a f r rest last more (λ x b here is. known x b (Contains-later s.antecedent (map (λ q. q.antecedent) rest) x here) is) (resolvent_true a s.pivot c d r resolved h second)
@@ -97,10 +58,6 @@ pub told_place : (steps : List ToldStep) (id : ℕ) (c : Clause) → clause_told
 told_place [] id c h = absurd (cc)
 told_place (s ∷ steps) id c h = told_place-cases s steps id c (eqb s.id id) refl h (told_place steps id c)
 
--- an antecedent's needs are needed too
-needed_below : (steps : List ToldStep) (s : ToldStep) (x id : ℕ) → Contains steps s → Contains (antecedents s.origin) x → IsNeeded steps x id → IsNeeded steps s.id id
-needed_below steps s x id here ante needed p root closed = needed p (closed s x here root ante) closed
-
 -- the claim at one place
 TrueAt : (steps : List ToldStep) (a : Assignment) → ToldStep → Type 0
 TrueAt steps a s = OriginalsHold steps s.id a → clause_value a s.literals ≡ true
@@ -115,7 +72,7 @@ module _ (steps : List ToldStep) (a : Assignment) (told : (k : ℕ) (d : ToldSte
       let same = get_or-take k steps p.0 s before in
       let id_is : (get_or steps p.0 s).id ≡ x = sym (ap (λ (q : ToldStep). q.id) same) ∙ (p.2 s).0 in
       let c_is : (get_or steps p.0 s).literals ≡ c = sym (ap (λ (q : ToldStep). q.literals) same) ∙ (p.2 s).1 in
-      let holds_below : OriginalsHold steps (get_or steps p.0 s).id a = λ o here original needed. holds o here original (needed_below steps s x o.id (k, within, at) ante (rw id_is at needed)) in
+      let holds_below : OriginalsHold steps (get_or steps p.0 s).id a = λ o here original needed. holds o here original (IsNeeded-below steps s x o.id (k, within, at) ante (rw id_is at needed)) in
       rw (← c_is) (earlier p.0 s before holds_below)
 
   true_by_origin : (k : ℕ) (s : ToldStep) (origin : Origin) → s.origin ≡ origin → k < length steps → get_or steps k s ≡ s → StandsOn (take k steps) s.literals origin → ((j : ℕ) (d : ToldStep) → j < k → TrueAt steps a (get_or steps j d)) → OriginalsHold steps s.id a → clause_value a s.literals ≡ true

@@ -1,9 +1,11 @@
+pub mod AppendsLemmas
 pub mod CallerLemmas
 pub mod ChainGrowthLemmas
 pub mod ChainLemmas
 pub mod CoversLemmas
 pub mod FollowsLemmas
 pub mod MarksLemmas
+pub mod OldOrNextLemmas
 pub mod PairLemmas
 pub mod PartLemmas
 pub mod ReclaimLemmas

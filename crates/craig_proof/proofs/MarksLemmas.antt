@@ -2,15 +2,17 @@
 use Rattle.std.proofs.Common.{◌≡◌, ℕ, suc, zero, ◌+◌, ◌<◌, ◌≤◌, Bool, true, false, cond, ◌||◌, eqb, List, [], ◌∷◌, length, get_or, set, take, map, replicate, All, Contains, Some, length-take, refl, ap, sym, ◌∙◌, arith, eqb-true, ne_eqb, eq-eqb, ◌⊎◌, inl, inr}
 use native.Mathlib.Decide.{dec_lt}
 use Rattle.std.specs.List.{filter, list_any}
-use Rattle.std.proofs.lemmas.Bool.{eqb-false}
+use Rattle.std.proofs.lemmas.Bool.{eqb-false, or_right}
 use Rattle.std.proofs.lemmas.List.{get_or_default, get_or-take, length-map}
 use Rattle.std.proofs.Math.ListN.{get_or-map}
+use Rattle.std.proofs.Math.Bool.{or-true}
+use Rattle.craig_spec.proofs.ToldLemmas.{StandsOn-given}
 use Rattle.craig_spec.specs.Literal.{Clause}
 use Rattle.craig_spec.specs.Chain.{ChainStep, Origin, Original, Derived, ToldStep, Told, antecedents, clause_told, IsChain, StandsOn, EachStands, AreRising, IsTold}
 use Rattle.craig_spec.specs.Needed.{IsClosed, IsNeeded, IsNeededPart, unforgotten}
 use Rattle.craig_proof.specs.StoredSteps.{step_of, origin_of}
 use Rattle.craig_proof.specs.declared.stored_step.StoredStep.{StoredStep}
-use Rattle.craig_proof.specs.Marks.{mark_of, HasId, AreNeededMarks}
+use Rattle.craig_proof.specs.NeededMarks.{mark_of, HasId, AreNeededMarks}
 use Rattle.craig_proof.specs.Tracer.{chain_of}
 use Rattle.craig_proof.specs.declared.step.Step.{Step}
 use Rattle.craig_proof.proofs.ToldLemmas.{HasId-at}
@@ -50,15 +52,11 @@ mark_of-at (s ∷ steps) (m ∷ marks) (suc k) d e rising same within =
     let up : s.id < (get_or steps k d).id = rising 0 (suc k) d (omega arith) within in
     rw (ne_eqb s.id (get_or steps k d).id (λ q. omega arith)) (mark_of-at steps marks k d e (tail_rising s steps rising) (omega arith) (omega arith))
 
-or_true : (b : Bool) → (b || true) ≡ true
-or_true true = refl
-or_true false = refl
-
 -- a test finds a member
 list_any-member : (x : ℕ) (xs : List ℕ) (k : ℕ) → k < length xs → get_or xs k x ≡ x → list_any (eqb x) xs ≡ true
 list_any-member x [] k within at = absurd (omega arith)
 list_any-member x (y ∷ xs) zero within at = rw (eq-eqb x y (sym at)) refl
-list_any-member x (y ∷ xs) (suc k) within at = rw (list_any-member x xs k (omega arith) at) (or_true (eqb x y))
+list_any-member x (y ∷ xs) (suc k) within at = rw (list_any-member x xs k (omega arith) at) (or-true (eqb x y))
 
 member-cases : (x y : ℕ) (xs : List ℕ) (b : Bool) → eqb x y ≡ b → (b || list_any (eqb x) xs) ≡ true → (list_any (eqb x) xs ≡ true → Contains xs x) → Contains (y ∷ xs) x
 member-cases x y xs true e h later = (0, omega arith, sym (eqb-true x y e))
@@ -77,15 +75,10 @@ chain_told : (steps : List ToldStep) (c : Clause) (rest : List ChainStep) (last 
 chain_told steps c [] last x chain (k, within, at) = absurd (omega arith)
 chain_told steps c (s ∷ rest) last x (d, r, e, resolved, more) here = chain_told-cases steps s.antecedent x (map (λ q. q.antecedent) rest) d e here (chain_told steps r rest last x more)
 
-pub stands_told : (before : List ToldStep) (c : Clause) (origin : Origin) (x : ℕ) → StandsOn before c origin → Contains (antecedents origin) x → (d : Clause) × (clause_told before x ≡ Some d)
-stands_told before c (Original part) x stands (k, within, at) = absurd (omega arith)
-stands_told before c (Derived first rest) x stands here =
-    chain_told-cases before first x (map (λ q. q.antecedent) rest) stands.start stands.start_is here (chain_told before stands.start rest c x stands.chain)
-
 -- an antecedent stands before its step
 pub antecedent_before : (steps : List ToldStep) (k x : ℕ) (d : ToldStep) → EachStands steps → k < length steps → Contains (antecedents (get_or steps k d).origin) x → (j : ℕ) × (j < k) × ((e : ToldStep) → (get_or steps j e).id ≡ x)
 antecedent_before steps k x d stand within here =
-    let told = stands_told (take k steps) (get_or steps k d).literals (get_or steps k d).origin x (stand k d within) here in
+    let told = StandsOn-given (take k steps) (get_or steps k d).literals (get_or steps k d).origin x (stand k d within) here in
     let p = told_place (take k steps) x told.0 told.1 in
     let before : p.0 < k = omega (arith, p.1, length-take k steps) in
     (p.0, before, λ e. sym (ap (λ (q : ToldStep). q.id) (get_or-take k steps p.0 e before)) ∙ (p.2 e).0)
@@ -131,13 +124,10 @@ either false b h = inr h
 or_left : (a b : Bool) → a ≡ true → (a || b) ≡ true
 or_left a b h = rw h refl
 
-or_right : (a b : Bool) → b ≡ true → (a || b) ≡ true
-or_right a b h = rw h (or_true a)
-
 -- a step that is marked
 module _ (steps : List ToldStep) (root : ℕ) (old new : ℕ → Bool) (place : ℕ) (at : ToldStep) (rising : AreRising steps) (stand : EachStands steps) (within : place < length steps) (is_at : get_or steps place at ≡ at) (back : BackMarks steps root old (place + 1)) (on : old at.id ≡ true) (marked : (x : ℕ) → new x ≡ (list_any (eqb x) (antecedents at.origin) || old x)) where
   stays : (x : ℕ) → old x ≡ true → new x ≡ true
-  stays x h = marked x ∙ or_right (list_any (eqb x) (antecedents at.origin)) (old x) h
+  stays x h = marked x ∙ or_right _ _ h
 
   antecedent_marked : (x : ℕ) → Contains (antecedents at.origin) x → new x ≡ true
   antecedent_marked x here = marked x ∙ or_left (list_any (eqb x) (antecedents at.origin)) (old x) (list_any-member x (antecedents at.origin) here.0 here.1 here.2)

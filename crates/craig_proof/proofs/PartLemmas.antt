@@ -5,12 +5,14 @@ use Rattle.std.specs.List.{filter, list_any}
 use Rattle.std.proofs.lemmas.List.{get_or_default, take-map, length-map}
 use Rattle.std.proofs.lemmas.List.Kept.{AllPairs-filter}
 use Rattle.std.proofs.Math.ListN.{get_or-map}
+use Rattle.std.proofs.Math.Bool.{or-true}
+use Rattle.craig_spec.proofs.MemberLemmas.{Contains-front, Contains-later}
 use Rattle.craig_spec.specs.Literal.{Clause}
 use Rattle.craig_spec.specs.Chain.{ToldStep, Told, antecedents, clause_told, IsUnforgotten, EachStands, AreRising, IsTold}
 use Rattle.craig_spec.specs.Needed.{IsNeeded, IsNeededPart, unforgotten}
-use Rattle.craig_proof.specs.Marks.{last_id}
+use Rattle.craig_proof.specs.NeededMarks.{last_id}
 use Rattle.craig_proof.proofs.ChainLemmas.{StandsOn-same}
-use Rattle.craig_proof.proofs.FollowsLemmas.{Contains-front, Contains-later, told_place}
+use Rattle.craig_proof.proofs.FollowsLemmas.{told_place}
 use Rattle.craig_proof.proofs.ReclaimLemmas.{EachStands-left, clause_told-left}
 use Rattle.craig_proof.proofs.ReplayLemmas.{part}
 use Rattle.craig_proof.proofs.RootLemmas.{last_needed, needed_below_root}
@@ -29,13 +31,6 @@ found_at (s ∷ steps) (suc k) d rising within =
 pub clause_told-found : (t : Told) (s : ToldStep) → IsTold t → Contains t.steps s → clause_told t.steps s.id ≡ Some s.literals
 clause_told-found t s told (k, within, at) = rw at at (found_at t.steps k s told.rising within)
 
--- and what is found is the clause of a step
-pub found_step : (steps : List ToldStep) (id : ℕ) (c : Clause) → clause_told steps id ≡ Some c → (s : ToldStep) × Contains steps s × (s.id ≡ id) × (s.literals ≡ c)
-found_step [] id c h = absurd (cc)
-found_step (s ∷ steps) id c h =
-    let p = told_place (s ∷ steps) id c h in
-    (get_or (s ∷ steps) p.0 s, (p.0, p.1, get_or_default (s ∷ steps) p.0 (get_or (s ∷ steps) p.0 s) s p.1), (p.2 s).0, (p.2 s).1)
-
 -- an id that isn't forgotten is that of a step
 unforgotten_step-cases : (s : ToldStep) (steps : List ToldStep) (id : ℕ) (b f : Bool) → eqb s.id id ≡ b → s.forgotten ≡ f → (b && not f || list_any (λ q. eqb q.id id && not q.forgotten) steps) ≡ true → (IsUnforgotten steps id → (r : ToldStep) × Contains steps r × (r.id ≡ id) × (r.forgotten ≡ false)) → (r : ToldStep) × Contains (s ∷ steps) r × (r.id ≡ id) × (r.forgotten ≡ false)
 unforgotten_step-cases s steps id true false e f h later = (s, Contains-front s steps, eqb-true s.id id e, f)
@@ -47,17 +42,13 @@ unforgotten_step [] id h = absurd (cc)
 unforgotten_step (s ∷ steps) id h =
     unforgotten_step-cases s steps id (eqb s.id id) s.forgotten refl refl h (unforgotten_step steps id)
 
-or_true : (b : Bool) → (b || true) ≡ true
-or_true true = refl
-or_true false = refl
-
 unforgotten_at : (steps : List ToldStep) (s : ToldStep) (k : ℕ) → k < length steps → get_or steps k s ≡ s → s.forgotten ≡ false → IsUnforgotten steps s.id
 unforgotten_at [] s k within at f = absurd (omega arith)
 unforgotten_at (r ∷ steps) s zero within at f =
     let same : r.id ≡ s.id = ap (λ (q : ToldStep). q.id) at in
     let kept : r.forgotten ≡ false = ap (λ (q : ToldStep). q.forgotten) at ∙ f in
     rw (eq-eqb r.id s.id same, kept) refl
-unforgotten_at (r ∷ steps) s (suc k) within at f = rw (unforgotten_at steps s k (omega arith) at f) (or_true (eqb r.id s.id && not r.forgotten))
+unforgotten_at (r ∷ steps) s (suc k) within at f = rw (unforgotten_at steps s k (omega arith) at f) (or-true (eqb r.id s.id && not r.forgotten))
 
 -- and that of a step that isn't forgotten isn't
 pub IsUnforgotten-step : (steps : List ToldStep) (s : ToldStep) → Contains steps s → s.forgotten ≡ false → IsUnforgotten steps s.id

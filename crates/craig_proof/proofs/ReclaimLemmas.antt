@@ -4,6 +4,7 @@ use Rattle.std.specs.List.{filter}
 use Rattle.std.proofs.lemmas.List.{get_or_default, get_or-take}
 use Rattle.std.proofs.lemmas.List.Elements.{All-filter}
 use Rattle.std.proofs.lemmas.List.Kept.{AllPairs-filter}
+use Rattle.craig_spec.proofs.MemberLemmas.{Contains-take}
 use Rattle.craig_spec.specs.Chain.{ToldStep, Told, antecedents, clause_told, EachStands, IsTold}
 use Rattle.craig_spec.specs.Needed.{Reclaims}
 use Rattle.craig_proof.proofs.ChainLemmas.{StandsOn-same}
@@ -39,12 +40,6 @@ pub clause_told-left : (p : ToldStep → Bool) (steps : List ToldStep) (x : ℕ)
 clause_told-left p [] x passes = refl
 clause_told-left p (s ∷ steps) x passes =
     left_told-cases p s steps x (p s) (eqb s.id x) refl (passes s (0, omega arith, refl)) (clause_told-left p steps x (λ r here. passes r (suc here.0, omega (arith, here.1), here.2)))
-
--- one of the first steps is one of the steps
-Contains-take : (n : ℕ) (steps : List ToldStep) (r : ToldStep) → Contains (take n steps) r → Contains steps r
-Contains-take n steps r (k, within, at) =
-    let before : k < n = omega (arith, length-take n steps) in
-    (k, omega (arith, length-take n steps), sym (get_or-take n steps k r before) ∙ at)
 
 pub EachStands-left : (p : ToldStep → Bool) (steps : List ToldStep) → EachStands steps → ((s r : ToldStep) → Contains steps s → Contains steps r → p s ≡ true → Contains (antecedents s.origin) r.id → p r ≡ true) → EachStands (filter p steps)
 EachStands-left p steps stand closed k d within =

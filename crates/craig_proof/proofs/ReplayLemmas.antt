@@ -5,13 +5,14 @@ use Rattle.std.specs.Option.{ForSome, is_some}
 use Rattle.std.proofs.lemmas.List.{get_or_default, take_more, map-append, append-nil}
 use Rattle.std.proofs.Math.Seq.{take-length}
 use Rattle.std.proofs.lemmas.List.Elements.{filter-append}
+use Rattle.craig_spec.proofs.ToldLemmas.{StandsOn-given}
 use Rattle.craig_spec.specs.Literal.{Clause}
 use Rattle.craig_spec.specs.Chain.{Origin, ToldStep, Told, antecedents, clause_told, nothing_told, with_step, IsUnforgotten, IsAbove, StandsOn, EachStands, AreRising}
 use Rattle.craig_spec.specs.Needed.{IsClosed, unforgotten}
-use Rattle.craig_proof.specs.Marks.{last_id}
+use Rattle.craig_proof.specs.NeededMarks.{last_id}
 use Rattle.craig_proof.specs.Tracer.{Appends}
 use Rattle.craig_proof.proofs.ChainLemmas.{StandsOn-same}
-use Rattle.craig_proof.proofs.MarksLemmas.{some_step, stands_told}
+use Rattle.craig_proof.proofs.MarksLemmas.{some_step}
 
 -- the steps of the ids that pass, not forgotten
 abbrev pub part : (ℕ → Bool) → List ToldStep → List ToldStep
@@ -40,7 +41,7 @@ pub IsUnforgotten-part : (p : ℕ → Bool) (before : List ToldStep) (c : Clause
 IsUnforgotten-part p before c origin on stands k d within =
     let x : ℕ = get_or (antecedents origin) k d in
     let here : Contains (antecedents origin) x = (k, within, get_or_default (antecedents origin) k x d within) in
-    let t = stands_told before c origin x stands here in
+    let t = StandsOn-given before c origin x stands here in
     unforgotten_told (filter (λ s. p s.id) before) x t.0 (clause_told-part p before x (on x here) ∙ t.1)
 
 pub StandsOn-part : (p : ℕ → Bool) (before : List ToldStep) (c : Clause) (origin : Origin) → ((x : ℕ) → Contains (antecedents origin) x → p x ≡ true) → StandsOn before c origin → StandsOn (part p before) c origin

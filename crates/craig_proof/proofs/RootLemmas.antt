@@ -5,7 +5,7 @@ use Rattle.std.proofs.lemmas.Bool.Decides.{nat_tests}
 use Rattle.std.proofs.lemmas.List.{get_or_default}
 use Rattle.craig_spec.specs.Chain.{ToldStep, antecedents, IsUnforgotten, EachStands, AreRising}
 use Rattle.craig_spec.specs.Needed.{IsNeeded, unforgotten}
-use Rattle.craig_proof.specs.Marks.{last_id}
+use Rattle.craig_proof.specs.NeededMarks.{last_id}
 use Rattle.craig_proof.proofs.ToldLemmas.{unforgotten_place}
 use Rattle.craig_proof.proofs.MarksLemmas.{antecedent_before}
 use Rattle.craig_proof.proofs.ReplayLemmas.{part}

@@ -6,7 +6,7 @@ use Rattle.std.proofs.lemmas.Bool.Decides.{nat_tests}
 use Rattle.std.proofs.Math.ListN.{get_or-map}
 use Rattle.craig_spec.specs.Chain.{ToldStep, IsUnforgotten, without_id}
 use Rattle.craig_base.specs.declared.clause_id.ClauseId.{ClauseId}
-use Rattle.craig_proof.specs.Marks.{HasId}
+use Rattle.craig_proof.specs.NeededMarks.{HasId}
 use Rattle.craig_proof.specs.StoredSteps.{step_of, told_of}
 use Rattle.craig_proof.specs.declared.stored_step.StoredStep.{StoredStep}
 use Rattle.craig_proof.proofs.ToldLemmas.{HasId-unforgotten, has_place, set-forgotten}

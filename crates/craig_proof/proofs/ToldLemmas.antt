@@ -7,11 +7,12 @@ use Rattle.std.proofs.Math.ListN.{get_or-append, get_or-map}
 use Rattle.std.proofs.Math.Seq.{take-append_seam, get_or-append_seam}
 use Rattle.std.proofs.lemmas.List.Quantifiers.{all_pairs_push}
 use Rattle.std.proofs.lemmas.List.Elements.{All-push}
+use Rattle.std.proofs.Math.Bool.{or-true}
 use Rattle.craig_spec.specs.Literal.{Clause}
 use Rattle.craig_spec.specs.Chain.{Origin, ToldStep, Told, nothing_told, with_step, forgotten_at, without_id, clause_told, IsUnforgotten, IsAbove, StandsOn, IsTold}
 use Rattle.craig_spec.specs.Needed.{Reclaims, IsOriginal}
 use Rattle.craig_base.specs.Clauses.{IsNormal}
-use Rattle.craig_proof.specs.Marks.{HasId}
+use Rattle.craig_proof.specs.NeededMarks.{HasId}
 use Rattle.craig_proof.specs.StoredSteps.{IsStore}
 use Rattle.craig_proof.proofs.ChainLemmas.{StandsOn-same}
 
@@ -91,14 +92,6 @@ IsTold-without_id id t told = record {
       rw (at_forgotten id k t.steps d k_within, take-map, (same_but_mark id (get_or t.steps k d)).1, (same_but_mark id (get_or t.steps k d)).2) (StandsOn-forgotten id (take k t.steps) _ _ (told.stand k d k_within));
 }
 
-filter-all : (steps : List ToldStep) → steps ≡ filter (λ _. true) steps
-filter-all [] = refl
-filter-all (s ∷ steps) = ap (λ rest. s ∷ rest) (filter-all steps)
-
--- it is allowed to give up nothing
-pub Reclaims-nothing : (t : Told) → Reclaims t t
-Reclaims-nothing t = record { greatest = refl; kept = λ _. true; steps = filter-all t.steps; closed = λ s r here there left ante. refl; needed = λ s id here unforgotten needed. refl }
-
 unforgotten_place-cases : (s : ToldStep) (steps : List ToldStep) (id : ℕ) (b : Bool) → eqb s.id id ≡ b → (b && not s.forgotten || list_any (λ q. eqb q.id id && not q.forgotten) steps) ≡ true → (IsUnforgotten steps id → (k : ℕ) × (k < length steps) × ((d : ToldStep) → (get_or steps k d).id ≡ id)) → (k : ℕ) × (k < length (s ∷ steps)) × ((d : ToldStep) → (get_or (s ∷ steps) k d).id ≡ id)
 unforgotten_place-cases s steps id true e h later = (0, omega arith, λ d. eqb-true s.id id e)
 unforgotten_place-cases s steps id false e h later = let p = later h in (suc p.0, omega arith, p.2)
@@ -152,15 +145,11 @@ pub has_place : (steps : List ToldStep) (id : ℕ) → HasId steps id → (k : �
 has_place [] id h = absurd (cc)
 has_place (s ∷ steps) id h = has_place-cases s steps id (eqb s.id id) refl h (has_place steps id)
 
-or_true : (b : Bool) → (b || true) ≡ true
-or_true true = refl
-or_true false = refl
-
 -- an id that stands somewhere
 pub HasId-at : (steps : List ToldStep) (id k : ℕ) → k < length steps → ((d : ToldStep) → (get_or steps k d).id ≡ id) → HasId steps id
 HasId-at [] id k within at = absurd (omega arith)
 HasId-at (s ∷ steps) id zero within at = rw (eq-eqb s.id id (at s)) refl
-HasId-at (s ∷ steps) id (suc k) within at = rw (HasId-at steps id k (omega arith) at) (or_true (eqb s.id id))
+HasId-at (s ∷ steps) id (suc k) within at = rw (HasId-at steps id k (omega arith) at) (or-true (eqb s.id id))
 
 -- an id that isn't forgotten stands somewhere
 pub HasId-unforgotten : (steps : List ToldStep) (id : ℕ) → IsUnforgotten steps id → HasId steps id

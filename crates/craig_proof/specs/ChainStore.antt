@@ -1,8 +1,16 @@
 -- A chain store.
-use Rattle.std.specs.Prelude.{Bool}
-use Rattle.craig_spec.specs.Chain.{Told}
+use Rattle.std.specs.Prelude.{◌≡◌, ℕ, Bool, List, Option, Some}
+use Rattle.std.specs.Option.{ForSome}
+use Rattle.craig_spec.specs.Chain.{Told, ToldStep}
+use Rattle.craig_spec.specs.Needed.{IsNeededPart}
 
--- what was told, and whether a call wanted memory in vain, after which each further one is refused
+-- what a chain store is seen as
 pub record ChainStoreView : Type 0 where
+  -- what was told
   pub told : Told
+  -- whether a call wanted memory in vain, after which each further one is refused
   pub dead : Bool
+
+-- where the other tracer tells its meaning, it was told the steps that the root needs, the root's last
+abbrev pub IsReplayed : List ToldStep → ℕ → Option Told → Option Told → Type 0
+IsReplayed steps root before after = ForSome before (λ _. (u : Told) × (after ≡ Some u) × (u.greatest ≡ Some root) × IsNeededPart steps root u.steps)

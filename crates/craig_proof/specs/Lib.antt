@@ -1,6 +1,6 @@
 pub mod ChainStore
 pub mod Covers
-pub mod Marks
+pub mod NeededMarks
 pub mod Pair
 pub mod StoredSteps
 pub mod Tracer

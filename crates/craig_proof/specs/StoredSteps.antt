@@ -6,12 +6,12 @@ use Rattle.craig_spec.specs.Needed.{IsOriginal}
 use Rattle.craig_base.specs.Clauses.{IsNormal}
 use Rattle.craig_base.specs.declared.clause_id.ClauseId.{ClauseId}
 use Rattle.craig_proof.specs.Tracer.{chain_of}
-use Rattle.craig_proof.specs.declared.stored_step.Source.{Source}
-use Rattle.craig_proof.specs.declared.stored_step.Source.TheVariants.{Input, Chain}
+use Rattle.craig_proof.specs.declared.stored_step.StoredOrigin.{StoredOrigin}
+use Rattle.craig_proof.specs.declared.stored_step.StoredOrigin.TheVariants.{Input, Chain}
 use Rattle.craig_proof.specs.declared.stored_step.StoredStep.{StoredStep}
 
 -- where a clause comes from
-abbrev pub origin_of : Source → Origin
+abbrev pub origin_of : StoredOrigin → Origin
 origin_of (Input part) = Original part.0
 origin_of (Chain first rest) = Derived first.0 (chain_of rest.items)
 
@@ -29,5 +29,7 @@ OriginalsNormal steps = All (λ s. IsOriginal s.origin → IsNormal s.literals) 
 
 -- what a store keeps: steps that stand on one another, on normal originals
 pub record IsStore (t : Told) : Type 0 where
+  -- the steps stand on one another
   pub told : IsTold t
+  -- each original is normal
   pub normal : OriginalsNormal t.steps

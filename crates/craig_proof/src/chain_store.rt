@@ -1,14 +1,20 @@
+//! A tracer that keeps the whole refutation, and tells another the part of it that one clause needs.
+//!
+//! Kept steps stand in a list by rising id. What a root needs is found by one pass from the last step back, as proof
+//! checkers do since Goldberg and Novikov (DATE 2003).
+
 ghost use Rattle.std.specs.Prelude.{◌≡◌, Some, None, true, false, All, is_some, OnOk, OnErr, IsErr};
 ghost use Rattle.std.specs.Option.{ForSome, option_map};
 ghost use Rattle.craig_base.specs.Clauses.{IsNormal};
 ghost use Rattle.craig_spec.specs.Chain.{Told, IsTold, IsAbove, IsUnforgotten, ChainOk, Derived, antecedents, clause_told, nothing_told, with_step, without_id};
 ghost use Rattle.craig_spec.specs.Needed.{AllFollow, IsNeededPart, Reclaims};
-ghost use Rattle.craig_proof.specs.Tracer.{chain_of, original_step, derived_step, Appends};
+ghost use Rattle.craig_proof.specs.ChainStore.{IsReplayed};
+ghost use Rattle.craig_proof.specs.Tracer.{chain_of, original_step, derived_step, Appends, AreUnforgotten, IsReclaimed, IsToldChain};
 
 use crate::marks::needed_marks;
 use crate::place::place_of;
 use crate::replay::tell_marked;
-use crate::stored_step::{Source, StoredStep};
+use crate::stored_step::{StoredOrigin, StoredStep};
 use crate::{Step, Tracer};
 use craig_base::{ClauseId, Lit, Part};
 use std::alloc::{AllocError, Global};
@@ -21,7 +27,9 @@ use std::marker::Model;
 pub struct ChainStore {
     // by rising id
     steps: Vec<StoredStep>,
+    // the last id that was told
     greatest: Option<ClauseId>,
+    // whether a call wanted memory in vain
     dead: bool,
 }
 
@@ -57,7 +65,7 @@ impl ChainStore {
     pub fn replay<T: Tracer>(&self, root: ClauseId, into: &mut T) -> Result<(), AllocError>
         requires root { IsUnforgotten self.now.told.steps root.0 }
         requires nothing { ForSome (T.told into.old) (λ t. t ≡ nothing_told) }
-        ensures told { OnOk result (ForSome (T.told into.old) (λ _. (u : Told) × (T.told into.new ≡ Some u) × (u.greatest ≡ Some root.0) × IsNeededPart self.now.told.steps root.0 u.steps)) }
+        ensures told { OnOk result (IsReplayed self.now.told.steps root.0 (T.told into.old) (T.told into.new)) }
         ensures tells { is_some (T.told into.new) ≡ is_some (T.told into.old) }
         ensures kept { T.kept into.new ≡ T.kept into.old }
         ensures refused { self.now.dead ≡ true → IsErr result }
@@ -100,7 +108,7 @@ impl Tracer for ChainStore {
         }
         self.dead = true;
         let literals = Vec::from_slice(*self.steps.allocator(), lits)?;
-        let source = Source::Input(part);
+        let source = StoredOrigin::Input(part);
         self.steps.push(StoredStep {
             id,
             literals,
@@ -120,8 +128,8 @@ impl Tracer for ChainStore {
         rest: &[Step],
     ) -> Result<(), AllocError>
         requires above { ForSome (Some self.old.told) (λ t. IsAbove t id.0) }
-        requires unforgotten { ForSome (Some self.old.told) (λ t. All (IsUnforgotten t.steps) (antecedents (Derived first.0 (chain_of rest.now)))) }
-        requires chain { ForSome (Some self.old.told) (λ t. ChainOk (clause_told t.steps) lits.now first.0 (chain_of rest.now)) }
+        requires unforgotten { AreUnforgotten (Some self.old.told) first.0 (chain_of rest.now) }
+        requires chain { IsToldChain (Some self.old.told) lits.now first.0 (chain_of rest.now) }
         ensures told { OnOk result (Appends (Some self.old.told) (Some self.new.told) (derived_step id.0 lits.now first.0 rest.now)) }
         ensures tells { is_some (Some self.new.told) ≡ is_some (Some self.old.told) }
         ensures unchanged { OnErr result (self.new.told ≡ self.old.told) }
@@ -135,7 +143,7 @@ impl Tracer for ChainStore {
         self.dead = true;
         let literals = Vec::from_slice(*self.steps.allocator(), lits)?;
         let chain = Vec::from_slice(*self.steps.allocator(), rest)?;
-        let source = Source::Chain(first, chain);
+        let source = StoredOrigin::Chain(first, chain);
         self.steps.push(StoredStep {
             id,
             literals,
@@ -157,9 +165,10 @@ impl Tracer for ChainStore {
     }
 
     fn reclaim(&mut self)
-        ensures told { (t : Told) → Some self.old.told ≡ Some t → (u : Told) × (Some self.new.told ≡ Some u) × Reclaims t u }
+        ensures told { IsReclaimed (Some self.old.told) (Some self.new.told) }
         ensures tells { is_some (Some self.new.told) ≡ is_some (Some self.old.told) }
         ensures unchanged { self.new ≡ self.old }
+        ensures dead { self.new.dead ≡ self.old.dead }
     {}
 }
 
@@ -170,7 +179,7 @@ mod tests {
     use craig_base::Var;
     use std::test::Fail;
 
-    // Tells `[v0]` of part 1, `[~v0]` of part 2, `[v5]` of part 1, and the empty clause of the first two.
+    /// Tells `[v0]` of part 1, `[~v0]` of part 2, `[v5]` of part 1, and the empty clause of the first two.
     fn tell_refutation<T: Tracer>(tracer: &mut T) -> Result<(), AllocError>
         requires { ForSome (T.told tracer.old) (λ t. t ≡ nothing_told) }
         ensures told { OnOk result (ForSome (T.told tracer.old) (λ _. (u : Told) × (T.told tracer.new ≡ Some u) × IsUnforgotten u.steps 3)) }
@@ -192,7 +201,7 @@ mod tests {
         tracer.derived(ClauseId(3), &none, ClauseId(0), &rest)
     }
 
-    // Says that the clause is done with, and lets go of what no other needs.
+    /// Says that the clause is done with, and lets go of what no other needs.
     fn forget_and_reclaim<T: Tracer>(tracer: &mut T, id: ClauseId)
         requires { ForSome (T.told tracer.old) (λ t. IsUnforgotten t.steps id.0) }
     {
@@ -200,7 +209,7 @@ mod tests {
         tracer.reclaim();
     }
 
-    // Whether the store has exactly the steps of these ids.
+    /// Whether the store has exactly the steps of these ids.
     fn has_ids(store: &ChainStore, ids: &[u64]) -> bool {
         store.steps.len() == ids.len()
             && store

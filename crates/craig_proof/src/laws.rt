@@ -9,7 +9,7 @@ ghost use Rattle.craig_spec.specs.Chain.{ChainStep, Derived, ToldStep, Told, IsA
 ghost use Rattle.craig_spec.specs.Needed.{AllFollow, IsNeeded, IsNeededPart, Reclaims, unforgotten};
 ghost use Rattle.craig_base.specs.Clauses.{IsTautology};
 ghost use Rattle.craig_proof.specs.Covers.{GivesSome, IsCovering, IsOldOrNext};
-ghost use Rattle.craig_proof.specs.Marks.{last_id};
+ghost use Rattle.craig_proof.specs.NeededMarks.{last_id};
 ghost use Rattle.craig_proof.specs.Tracer.{Appends, chain_of, original_step, derived_step};
 ghost use Rattle.craig_proof.specs.declared.step.Step.{Step};
 

@@ -2,17 +2,17 @@
 ghost use Rattle.std.specs.Prelude.{◌≡◌, ◌||◌, ℕ, false, All, length, map, nat_eq, IfOk};
 ghost use Rattle.std.specs.List.{list_any};
 ghost use Rattle.craig_spec.specs.Chain.{AreRising, EachStands, antecedents};
-ghost use Rattle.craig_proof.specs.Marks.{AreNeededMarks, HasId, mark_of};
+ghost use Rattle.craig_proof.specs.NeededMarks.{AreNeededMarks, HasId, mark_of};
 ghost use Rattle.craig_proof.specs.StoredSteps.{origin_of, step_of};
 ghost use Rattle.craig_proof.specs.Tracer.{chain_of};
 
 use crate::Step;
 use crate::place::place_of;
-use crate::stored_step::{Source, StoredStep};
+use crate::stored_step::{StoredOrigin, StoredStep};
 use craig_base::ClauseId;
 use std::alloc::{AllocError, Global};
 
-// Marks the step of the id.
+/// Marks the step of the id.
 fn mark(marks: &mut [bool], steps: &[StoredStep], id: ClauseId)
     requires rising { AreRising (map step_of steps.now) }
     requires lengths { length marks.old ≡ length steps.now }
@@ -22,7 +22,7 @@ fn mark(marks: &mut [bool], steps: &[StoredStep], id: ClauseId)
     marks[place_of(steps, id)] = true;
 }
 
-// Marks the antecedents in the pairs of a chain.
+/// Marks the antecedents in the pairs of a chain.
 fn mark_chain(marks: &mut [bool], steps: &[StoredStep], chain: &[Step])
     requires rising { AreRising (map step_of steps.now) }
     requires lengths { length marks.old ≡ length steps.now }
@@ -34,20 +34,20 @@ fn mark_chain(marks: &mut [bool], steps: &[StoredStep], chain: &[Step])
     }
 }
 
-// Marks all that a clause is derived from.
-fn mark_antecedents(marks: &mut [bool], steps: &[StoredStep], source: &Source)
+/// Marks all that a clause is derived from.
+fn mark_antecedents(marks: &mut [bool], steps: &[StoredStep], source: &StoredOrigin)
     requires rising { AreRising (map step_of steps.now) }
     requires lengths { length marks.old ≡ length steps.now }
     requires stand { All (HasId (map step_of steps.now)) (antecedents (origin_of source.now)) }
     ensures { (x : ℕ) → mark_of (map step_of steps.now) marks.new x ≡ (list_any (nat_eq x) (antecedents (origin_of source.now)) || mark_of (map step_of steps.now) marks.old x) }
 {
-    if let Source::Chain(first, chain) = source {
+    if let StoredOrigin::Chain(first, chain) = source {
         mark_chain(marks, steps, chain.as_slice());
         mark(marks, steps, *first);
     }
 }
 
-// Marks what the marked steps need, from the last step to the first.
+/// Marks what the marked steps need, from the last step to the first.
 fn mark_back(marks: &mut [bool], steps: &[StoredStep], root: ClauseId)
     requires rising { AreRising (map step_of steps.now) }
     requires stand { EachStands (map step_of steps.now) }
@@ -64,7 +64,7 @@ fn mark_back(marks: &mut [bool], steps: &[StoredStep], root: ClauseId)
     }
 }
 
-// Marks the steps that the root needs, where none is marked yet.
+/// Marks the steps that the root needs, where none is marked yet.
 fn mark_needed(marks: &mut [bool], steps: &[StoredStep], root: ClauseId)
     requires rising { AreRising (map step_of steps.now) }
     requires stand { EachStands (map step_of steps.now) }
@@ -77,7 +77,7 @@ fn mark_needed(marks: &mut [bool], steps: &[StoredStep], root: ClauseId)
     mark_back(marks, steps, root);
 }
 
-// Marks at the places of the steps that the root needs.
+/// Marks at the places of the steps that the root needs.
 pub(crate) fn needed_marks(
     alloc: Global,
     steps: &[StoredStep],

@@ -1,10 +1,11 @@
-ghost use Rattle.std.specs.Prelude.{◌≡◌, Some, true, false, All, is_some, OnOk, OnErr, IsErr};
+//! Two tracers that are told the same.
+
+ghost use Rattle.std.specs.Prelude.{◌≡◌, true, false, is_some, OnOk, OnErr, IsErr};
 ghost use Rattle.std.specs.Option.{ForSome, option_map};
 ghost use Rattle.craig_base.specs.Clauses.{IsNormal};
-ghost use Rattle.craig_spec.specs.Chain.{Told, IsAbove, IsUnforgotten, ChainOk, Derived, antecedents, clause_told, without_id};
-ghost use Rattle.craig_spec.specs.Needed.{Reclaims};
-ghost use Rattle.craig_proof.specs.Pair.{Agree, pair_kept, pair_told};
-ghost use Rattle.craig_proof.specs.Tracer.{chain_of, original_step, derived_step, Appends};
+ghost use Rattle.craig_spec.specs.Chain.{IsAbove, IsUnforgotten, without_id};
+ghost use Rattle.craig_proof.specs.Pair.{Agree, PairAppends, pair_kept, pair_told};
+ghost use Rattle.craig_proof.specs.Tracer.{chain_of, original_step, derived_step, Appends, AreUnforgotten, IsReclaimed, IsToldChain};
 
 use crate::{Step, Tracer};
 use craig_base::{ClauseId, Lit, Part};
@@ -17,8 +18,11 @@ use std::marker::Model;
 /// memory in vain the two may differ, each further call that can say so is refused, and `forget` does nothing.
 #[derive(Drop)]
 pub struct Pair<T: Tracer, U: Tracer> {
+    // told first
     first: T,
+    // told what the first was told
     second: U,
+    // whether a call wanted memory in vain
     dead: bool,
 }
 
@@ -66,18 +70,18 @@ impl<T: Tracer, U: Tracer> Pair<T, U> {
 }
 
 impl<T: Tracer, U: Tracer> Tracer for Pair<T, U> {
-    ghost told = { λ p. pair_told (T.told p.first) (U.told p.second) p.dead };
+    ghost told = { λ p. pair_told T.told U.told p };
 
     ghost Kept = { T.Kept × U.Kept };
 
-    ghost kept = { λ p. pair_kept (T.kept p.first) (U.kept p.second) };
+    ghost kept = { λ p. pair_kept T.kept U.kept p };
 
     fn original(&mut self, id: ClauseId, part: Part, lits: &[Lit]) -> Result<(), AllocError>
-        requires above { ForSome (pair_told (T.told self.old.first) (U.told self.old.second) self.old.dead) (λ t. IsAbove t id.0) }
+        requires above { ForSome (pair_told T.told U.told self.old) (λ t. IsAbove t id.0) }
         requires normal { IsNormal lits.now }
-        ensures told { OnOk result (Appends (pair_told (T.told self.old.first) (U.told self.old.second) self.old.dead) (pair_told (T.told self.new.first) (U.told self.new.second) self.new.dead) (original_step id.0 part.0 lits.now)) }
-        ensures tells { is_some (pair_told (T.told self.new.first) (U.told self.new.second) self.new.dead) ≡ is_some (pair_told (T.told self.old.first) (U.told self.old.second) self.old.dead) }
-        ensures kept { pair_kept (T.kept self.new.first) (U.kept self.new.second) ≡ pair_kept (T.kept self.old.first) (U.kept self.old.second) }
+        ensures told { OnOk result (PairAppends T.told U.told self.old self.new (original_step id.0 part.0 lits.now)) }
+        ensures tells { is_some (pair_told T.told U.told self.new) ≡ is_some (pair_told T.told U.told self.old) }
+        ensures kept { pair_kept T.kept U.kept self.new ≡ pair_kept T.kept U.kept self.old }
         ensures first { OnOk result (Appends (T.told self.old.first) (T.told self.new.first) (original_step id.0 part.0 lits.now)) }
         ensures second { OnOk result (Appends (U.told self.old.second) (U.told self.new.second) (original_step id.0 part.0 lits.now)) }
         ensures alive { OnOk result (self.new.dead ≡ false) }
@@ -101,12 +105,12 @@ impl<T: Tracer, U: Tracer> Tracer for Pair<T, U> {
         first: ClauseId,
         rest: &[Step],
     ) -> Result<(), AllocError>
-        requires above { ForSome (pair_told (T.told self.old.first) (U.told self.old.second) self.old.dead) (λ t. IsAbove t id.0) }
-        requires unforgotten { ForSome (pair_told (T.told self.old.first) (U.told self.old.second) self.old.dead) (λ t. All (IsUnforgotten t.steps) (antecedents (Derived first.0 (chain_of rest.now)))) }
-        requires chain { ForSome (pair_told (T.told self.old.first) (U.told self.old.second) self.old.dead) (λ t. ChainOk (clause_told t.steps) lits.now first.0 (chain_of rest.now)) }
-        ensures told { OnOk result (Appends (pair_told (T.told self.old.first) (U.told self.old.second) self.old.dead) (pair_told (T.told self.new.first) (U.told self.new.second) self.new.dead) (derived_step id.0 lits.now first.0 rest.now)) }
-        ensures tells { is_some (pair_told (T.told self.new.first) (U.told self.new.second) self.new.dead) ≡ is_some (pair_told (T.told self.old.first) (U.told self.old.second) self.old.dead) }
-        ensures kept { pair_kept (T.kept self.new.first) (U.kept self.new.second) ≡ pair_kept (T.kept self.old.first) (U.kept self.old.second) }
+        requires above { ForSome (pair_told T.told U.told self.old) (λ t. IsAbove t id.0) }
+        requires unforgotten { AreUnforgotten (pair_told T.told U.told self.old) first.0 (chain_of rest.now) }
+        requires chain { IsToldChain (pair_told T.told U.told self.old) lits.now first.0 (chain_of rest.now) }
+        ensures told { OnOk result (PairAppends T.told U.told self.old self.new (derived_step id.0 lits.now first.0 rest.now)) }
+        ensures tells { is_some (pair_told T.told U.told self.new) ≡ is_some (pair_told T.told U.told self.old) }
+        ensures kept { pair_kept T.kept U.kept self.new ≡ pair_kept T.kept U.kept self.old }
         ensures first { OnOk result (Appends (T.told self.old.first) (T.told self.new.first) (derived_step id.0 lits.now first.0 rest.now)) }
         ensures second { OnOk result (Appends (U.told self.old.second) (U.told self.new.second) (derived_step id.0 lits.now first.0 rest.now)) }
         ensures alive { OnOk result (self.new.dead ≡ false) }
@@ -124,9 +128,9 @@ impl<T: Tracer, U: Tracer> Tracer for Pair<T, U> {
     }
 
     fn forget(&mut self, id: ClauseId)
-        requires { ForSome (pair_told (T.told self.old.first) (U.told self.old.second) self.old.dead) (λ t. IsUnforgotten t.steps id.0) }
-        ensures told { pair_told (T.told self.new.first) (U.told self.new.second) self.new.dead ≡ option_map (without_id id.0) (pair_told (T.told self.old.first) (U.told self.old.second) self.old.dead) }
-        ensures kept { pair_kept (T.kept self.new.first) (U.kept self.new.second) ≡ pair_kept (T.kept self.old.first) (U.kept self.old.second) }
+        requires { ForSome (pair_told T.told U.told self.old) (λ t. IsUnforgotten t.steps id.0) }
+        ensures told { pair_told T.told U.told self.new ≡ option_map (without_id id.0) (pair_told T.told U.told self.old) }
+        ensures kept { pair_kept T.kept U.kept self.new ≡ pair_kept T.kept U.kept self.old }
         ensures first { self.old.dead ≡ false → T.told self.new.first ≡ option_map (without_id id.0) (T.told self.old.first) }
         ensures second { self.old.dead ≡ false → U.told self.new.second ≡ option_map (without_id id.0) (U.told self.old.second) }
         ensures dead { self.new.dead ≡ self.old.dead }
@@ -138,9 +142,10 @@ impl<T: Tracer, U: Tracer> Tracer for Pair<T, U> {
     }
 
     fn reclaim(&mut self)
-        ensures told { (t : Told) → pair_told (T.told self.old.first) (U.told self.old.second) self.old.dead ≡ Some t → (u : Told) × (pair_told (T.told self.new.first) (U.told self.new.second) self.new.dead ≡ Some u) × Reclaims t u }
-        ensures tells { is_some (pair_told (T.told self.new.first) (U.told self.new.second) self.new.dead) ≡ is_some (pair_told (T.told self.old.first) (U.told self.old.second) self.old.dead) }
-        ensures kept { pair_kept (T.kept self.new.first) (U.kept self.new.second) ≡ pair_kept (T.kept self.old.first) (U.kept self.old.second) }
+        ensures told { IsReclaimed (pair_told T.told U.told self.old) (pair_told T.told U.told self.new) }
+        ensures tells { is_some (pair_told T.told U.told self.new) ≡ is_some (pair_told T.told U.told self.old) }
+        ensures kept { pair_kept T.kept U.kept self.new ≡ pair_kept T.kept U.kept self.old }
         ensures unchanged { self.new ≡ self.old }
+        ensures dead { self.new.dead ≡ self.old.dead }
     {}
 }

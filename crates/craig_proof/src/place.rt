@@ -1,10 +1,12 @@
+//! Where a kept step stands, by binary search.
+
 ghost use Rattle.std.specs.Prelude.{◌≡◌, ◌<◌, ◌≤◌, ℕ, length, AllPairs, slice_index_or};
 ghost use Rattle.craig_proof.specs.declared.stored_step.StoredStep.{StoredStep};
 
 use crate::stored_step::StoredStep;
 use craig_base::ClauseId;
 
-// The place of the step with the id, in logarithmic time, where there is one.
+/// The place of the step with the id, in logarithmic time, where there is one.
 pub(crate) fn place_of(steps: &[StoredStep], id: ClauseId) -> usize
     requires { AllPairs (λ r s. r.id.0 < s.id.0) steps.now }
     ensures bound { result ≤ length steps.now }

@@ -4,15 +4,15 @@ ghost use Rattle.std.specs.Option.{ForSome};
 ghost use Rattle.craig_base.specs.Clauses.{IsNormal};
 ghost use Rattle.craig_spec.specs.Chain.{Told, AreRising, EachStands, StandsOn, IsAbove, IsUnforgotten, antecedents, nothing_told};
 ghost use Rattle.craig_spec.specs.Needed.{IsClosed, IsOriginal, unforgotten};
-ghost use Rattle.craig_proof.specs.Marks.{last_id, mark_of};
+ghost use Rattle.craig_proof.specs.NeededMarks.{last_id, mark_of};
 ghost use Rattle.craig_proof.specs.StoredSteps.{OriginalsNormal, origin_of, step_of};
 ghost use Rattle.craig_proof.specs.Tracer.{Appends};
 
 use crate::Tracer;
-use crate::stored_step::{Source, StoredStep};
+use crate::stored_step::{StoredOrigin, StoredStep};
 use std::alloc::AllocError;
 
-// Tells the one step.
+/// Tells the one step.
 fn tell<T: Tracer>(step: &StoredStep, into: &mut T) -> Result<(), AllocError>
     requires above { ForSome (T.told into.old) (λ t. IsAbove t step.now.id.0) }
     requires normal { IsOriginal (origin_of step.now.source) → IsNormal step.now.literals.items }
@@ -24,12 +24,17 @@ fn tell<T: Tracer>(step: &StoredStep, into: &mut T) -> Result<(), AllocError>
 {
     let literals = step.literals.as_slice();
     match &step.source {
-        Source::Input(part) => into.original(step.id, *part, literals),
-        Source::Chain(first, rest) => into.derived(step.id, literals, *first, rest.as_slice()),
+        StoredOrigin::Input(part) => into.original(step.id, *part, literals),
+        StoredOrigin::Chain(first, rest) => into.derived(
+            step.id,
+            literals,
+            *first,
+            rest.as_slice(),
+        ),
     }
 }
 
-// Tells the steps that are marked, first to last.
+/// Tells the steps that are marked, first to last.
 pub(crate) fn tell_marked<T: Tracer>(
     steps: &[StoredStep],
     marks: &[bool],

@@ -1,3 +1,5 @@
+//! A tracer that listens to nothing.
+
 ghost use Rattle.std.specs.Prelude.{None};
 
 use crate::{Step, Tracer};

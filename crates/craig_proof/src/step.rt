@@ -1,3 +1,5 @@
+//! One resolution of a chain.
+
 use craig_base::{ClauseId, Lit, Var};
 
 /// One resolution of a chain.

@@ -1,3 +1,5 @@
+//! A list of the steps of a chain.
+
 ghost use Rattle.std.specs.Prelude.{◌≡◌, [], ◌∷◌, ◌++◌, OnOk, OnErr};
 
 use crate::Step;
@@ -8,6 +10,7 @@ use std::marker::Model;
 /// The steps of a chain after its first antecedent. The first eight take no memory.
 #[derive(Debug, Drop)]
 pub struct Steps {
+    // first to last
     steps: SmallVec<Step, 8>,
 }
 

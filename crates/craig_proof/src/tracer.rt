@@ -1,9 +1,10 @@
-ghost use Rattle.std.specs.Prelude.{◌≡◌, Option, All, is_some, OnOk};
+//! What a solver tells of its clauses, and to whom.
+
+ghost use Rattle.std.specs.Prelude.{◌≡◌, Option, is_some, OnOk};
 ghost use Rattle.std.specs.Option.{ForSome, option_map};
 ghost use Rattle.craig_base.specs.Clauses.{IsNormal};
-ghost use Rattle.craig_spec.specs.Chain.{Told, IsAbove, IsUnforgotten, ChainOk, Derived, antecedents, clause_told, without_id};
-ghost use Rattle.craig_spec.specs.Needed.{Reclaims};
-ghost use Rattle.craig_proof.specs.Tracer.{chain_of, original_step, derived_step, Appends};
+ghost use Rattle.craig_spec.specs.Chain.{Told, IsAbove, IsUnforgotten, without_id};
+ghost use Rattle.craig_proof.specs.Tracer.{chain_of, original_step, derived_step, Appends, AreUnforgotten, IsReclaimed, IsToldChain};
 
 use crate::Step;
 use craig_base::{ClauseId, Lit, Part};
@@ -41,8 +42,8 @@ pub trait Tracer {
         rest: &[Step],
     ) -> Result<(), AllocError>
         requires above { ForSome (told self.old) (λ t. IsAbove t id.0) }
-        requires unforgotten { ForSome (told self.old) (λ t. All (IsUnforgotten t.steps) (antecedents (Derived first.0 (chain_of rest.now)))) }
-        requires chain { ForSome (told self.old) (λ t. ChainOk (clause_told t.steps) lits.now first.0 (chain_of rest.now)) }
+        requires unforgotten { AreUnforgotten (told self.old) first.0 (chain_of rest.now) }
+        requires chain { IsToldChain (told self.old) lits.now first.0 (chain_of rest.now) }
         ensures told { OnOk result (Appends (told self.old) (told self.new) (derived_step id.0 lits.now first.0 rest.now)) }
         ensures tells { is_some (told self.new) ≡ is_some (told self.old) }
         ensures kept { kept self.new ≡ kept self.old };
@@ -55,7 +56,7 @@ pub trait Tracer {
 
     /// Lets go of steps that no clause needs that isn't forgotten, or of none. It takes no memory.
     fn reclaim(&mut self)
-        ensures told { (t : Told) → told self.old ≡ Some t → (u : Told) × (told self.new ≡ Some u) × Reclaims t u }
+        ensures told { IsReclaimed (told self.old) (told self.new) }
         ensures tells { is_some (told self.new) ≡ is_some (told self.old) }
         ensures kept { kept self.new ≡ kept self.old };
 }

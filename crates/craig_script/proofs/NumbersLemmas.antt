@@ -1,5 +1,5 @@
 -- Laws of the numbers that words write.
-use Rattle.std.proofs.Common.{◌≡◌, ◌≢◌, ℕ, zero, suc, ◌^◌, ◌<◌, ◌≤◌, Bool, true, false, ◌&&◌, ◌⊎◌, inl, inr, List, [], ◌∷◌, length, get_or, Some, None, ℤ, pos, negsuc, refl, sym, ◌∙◌, ap, arith}
+use Rattle.std.proofs.Common.{◌≡◌, ◌≢◌, ℕ, zero, suc, ◌^◌, ◌<◌, ◌≤◌, Bool, true, false, ◌&&◌, ◌⊎◌, inl, inr, List, [], ◌∷◌, length, drop, get_or, Option, Some, None, ℤ, pos, negsuc, neg_ℤ, option_map, subst, eqb-true, refl, sym, ◌∙◌, ap, arith}
 use Rattle.std.proofs.Math.Nat.{pow-le-pow_right}
 use Rattle.std.proofs.lemmas.Bool.Decides.{nat_tests}
 use Rattle.std.proofs.lemmas.Fmt.{digits_decimal, digits_value-decimal, decimal-digits_value, decimal_nonempty, length-decimal-le, first_decimal, decimal_digit}
@@ -11,7 +11,7 @@ use Rattle.std.specs.Fmt.{decimal, signed_decimal}
 use Rattle.std.specs.List.{list_all}
 use Rattle.std.specs.Str.{all_ascii_digits}
 use Rattle.std.specs.Str.Parse.{digits_value}
-use Rattle.craig_script.specs.NumberWords.{digit_limit, is_number, is_negated, number_of, unless_zero, literal_of}
+use Rattle.craig_script.specs.NumberWords.{IsLiteralWord, digit_limit, is_number, is_negated, number_of, unless_zero, literal_of}
 
 -- few digits make a small number
 pub pow-small : (i n : ℕ) → i ≤ n → 10 ^ i ≤ 10 ^ n
@@ -97,3 +97,43 @@ literal_of-signed_decimal (pos (suc n)) some h =
     let plain : is_negated (decimal (suc n)) ≡ false = grind (arith, nat_tests, first) in
     rw (plain, number_of-decimal (suc n) h, unless_zero-suc n) refl
 literal_of-signed_decimal (negsuc n) some h = rw (number_of-decimal (suc n) h, unless_zero-suc n) refl
+
+-- a number that isn't 0
+unless_zero-some : (o : Option ℕ) (n : ℕ) → unless_zero o ≡ Some n → (o ≡ Some n) × (0 < n)
+unless_zero-some None n e = cc
+unless_zero-some (Some zero) n e = cc
+unless_zero-some (Some (suc m)) n e = let same : Some (suc m) ≡ Some n = sym (unless_zero-suc m) ∙ e in let is : suc m ≡ n = cc in (same, omega (arith, is))
+
+option_map-some : (f : ℕ → ℤ) (o : Option ℕ) (z : ℤ) → option_map f o ≡ Some z → (n : ℕ) × (o ≡ Some n) × (f n ≡ z)
+option_map-some f None z e = cc
+option_map-some f (Some n) z e = (n, refl, let same : f n ≡ z = cc in same)
+
+-- a word that begins with a minus sign
+is_negated-cons : (word : List ℕ) → is_negated word ≡ true → word ≡ 45 ∷ drop 1 word
+is_negated-cons [] e = cc
+is_negated-cons (b ∷ bs) e = ap (λ (x : ℕ). x ∷ bs) (eqb-true b 45 e)
+
+positive_word : (word : List ℕ) (n : ℕ) → number_of word ≡ Some n → 0 < n → IsLiteralWord word (pos n)
+positive_word word n e some =
+    let read = number_of-is_decimal word n e in
+    record { form = read.0; some = λ no. (let zero_is : n ≡ 0 = cc in omega (arith, zero_is, some)); small = read.1 }
+
+negative_word : (word : List ℕ) (n : ℕ) → is_negated word ≡ true → number_of (drop 1 word) ≡ Some n → 0 < n → IsLiteralWord word (neg_ℤ (pos n))
+negative_word word zero sign e some = absurd (omega (arith, some))
+negative_word word (suc n) sign e some =
+    let read = number_of-is_decimal (drop 1 word) (suc n) e in
+    record { form = is_negated-cons word sign ∙ ap (λ (ds : List ℕ). 45 ∷ ds) read.0; some = λ no. cc; small = read.1 }
+
+literal_word : (b : Bool) (word : List ℕ) (z : ℤ) → is_negated word ≡ b → (if b then option_map (λ n. neg_ℤ (pos n)) (unless_zero (number_of (drop 1 word))) else option_map pos (unless_zero (number_of word))) ≡ Some z → IsLiteralWord word z
+literal_word true word z sign e =
+    let m = option_map-some (λ n. neg_ℤ (pos n)) (unless_zero (number_of (drop 1 word))) z e in
+    let n = unless_zero-some (number_of (drop 1 word)) m.0 m.1 in
+    subst (IsLiteralWord word) m.2 (negative_word word m.0 sign n.0 n.1)
+literal_word false word z sign e =
+    let m = option_map-some pos (unless_zero (number_of word)) z e in
+    let n = unless_zero-some (number_of word) m.0 m.1 in
+    subst (IsLiteralWord word) m.2 (positive_word word m.0 n.0 n.1)
+
+-- a word that is a literal is the literal's decimal form
+pub literal_of-is_decimal : (word : List ℕ) (z : ℤ) → literal_of word ≡ Some z → IsLiteralWord word z
+literal_of-is_decimal word z e = literal_word (is_negated word) word z refl e

@@ -71,7 +71,9 @@ cut_back bytes = take (line_limit + 1) bytes
 
 -- less than a whole line, and no more of it than it is cut back to
 pub record IsPartial (bytes : List ℕ) : Type 0 where
+  -- no more than tells that a line is overlong
   pub bounded : length bytes ≤ line_limit + 1
+  -- no newline is among them
   pub open_ended : has_newline bytes ≡ false
 
 -- a piece of the stream has come

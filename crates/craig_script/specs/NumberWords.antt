@@ -1,9 +1,11 @@
 -- Which words are numbers and literals, and which numbers they are.
-use Rattle.std.specs.Prelude.{ℕ, Bool, not, ◌&&◌, ◌||◌, ◌==◌, nat_le, List, length, drop, slice_index, Option, Some, None, ℤ, pos, neg_ℤ, if◌then◌else◌}
+use Rattle.std.specs.Prelude.{◌≡◌, ◌≢◌, ◌<◌, ◌^◌, ℕ, Bool, not, ◌&&◌, ◌||◌, ◌==◌, nat_le, List, length, drop, slice_index, Option, Some, None, ℤ, pos, neg_ℤ, if◌then◌else◌}
 use Rattle.std.specs.Option.{option_map}
 use Rattle.std.specs.Char.{is_ascii_digit}
 use Rattle.std.specs.List.{list_all}
 use Rattle.std.specs.Str.Parse.{digits_value}
+use Rattle.std.specs.Fmt.{signed_decimal}
+use Rattle.std.specs.Int.RustNames.{unsigned_abs}
 
 -- the most digits of a number
 abbrev pub digit_limit : ℕ
@@ -32,3 +34,12 @@ abbrev pub literal_of : List ℕ → Option ℤ
 literal_of word =
     if is_negated word then option_map (λ n. neg_ℤ (pos n)) (unless_zero (number_of (drop 1 word)))
     else option_map pos (unless_zero (number_of word))
+
+-- the word is the decimal form of the literal, which isn't 0
+pub record IsLiteralWord (word : List ℕ) (z : ℤ) : Type 0 where
+  -- the digits of the number, behind a minus sign where it is negative
+  pub form : word ≡ signed_decimal z
+  -- no literal is 0
+  pub some : z ≢ pos 0
+  -- it has at most 18 digits
+  pub small : unsigned_abs z < 10 ^ 18

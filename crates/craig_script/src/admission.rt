@@ -25,7 +25,7 @@ pub fn admit(parts: u16, any_clause: bool, command: &Command) -> Result<(), Refu
     }
 }
 
-// Whether each part that the command names is from 1 to the limit.
+/// Whether each part that the command names is from 1 to the limit.
 fn parts_are_within(limit: u64, command: &Command) -> bool
     ensures { result ≡ list_all (is_within limit) (parts_named command.now) }
 {
@@ -36,7 +36,7 @@ fn parts_are_within(limit: u64, command: &Command) -> bool
     }
 }
 
-// Whether each variable that the command names is from 1 to the limit.
+/// Whether each variable that the command names is from 1 to the limit.
 fn variables_are_within(limit: u64, command: &Command) -> bool
     ensures { result ≡ list_all (is_within limit) (variables_named command.now) }
 {
@@ -47,12 +47,14 @@ fn variables_are_within(limit: u64, command: &Command) -> bool
     }
 }
 
+/// Whether the part of each pair is from 1 to the limit.
 fn each_part_is_within(limit: u64, pairs: &[(u64, i64)]) -> bool
     ensures { result ≡ list_all (λ pair. is_within limit pair.0) pairs.now }
 {
     pairs.iter().all(|pair| is_within(limit, pair.0))
 }
 
+/// Whether the variable of each assumption is from 1 to the limit.
 fn each_assumption_is_within(limit: u64, pairs: &[(u64, i64)]) -> bool
     ensures { result ≡ list_all (λ pair. is_within limit (unsigned_abs pair.1)) pairs.now }
 {
@@ -61,13 +63,14 @@ fn each_assumption_is_within(limit: u64, pairs: &[(u64, i64)]) -> bool
         .all(|pair| is_within(limit, pair.1.unsigned_abs()))
 }
 
+/// Whether the variable of each literal is from 1 to the limit.
 fn each_literal_is_within(limit: u64, lits: &[i64]) -> bool
     ensures { result ≡ list_all (λ lit. is_within limit (unsigned_abs lit)) lits.now }
 {
     lits.iter().all(|lit| is_within(limit, lit.unsigned_abs()))
 }
 
-// Whether the number is from 1 to the limit.
+/// Whether the number is from 1 to the limit.
 fn is_within(limit: u64, number: u64) -> bool
     ensures { result ≡ is_within limit number }
 {

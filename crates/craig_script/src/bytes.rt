@@ -8,6 +8,7 @@ use std::marker::Model;
 /// A list of bytes. It is no text: any byte may stand in it.
 #[derive(Debug, Drop)]
 pub struct Bytes {
+    // first to last
     items: Vec<u8>,
 }
 
@@ -29,8 +30,8 @@ impl Bytes {
 
     /// Appends a byte. After an error, for which only want of memory is a cause, the list is as before.
     pub fn push(&mut self, item: u8) -> Result<(), AllocError>
-        ensures ok { OnOk result (self.new ≡ self.old ++ item ∷ []) }
-        ensures err { OnErr result (self.new ≡ self.old) }
+        ensures pushed { OnOk result (self.new ≡ self.old ++ item ∷ []) }
+        ensures unchanged { OnErr result (self.new ≡ self.old) }
     {
         self.items.push(item)?;
         Ok(())
@@ -38,8 +39,8 @@ impl Bytes {
 
     /// Appends bytes. After an error, for which only want of memory is a cause, the list is as before.
     pub fn extend_from_slice(&mut self, bytes: &[u8]) -> Result<(), AllocError>
-        ensures ok { OnOk result (self.new ≡ self.old ++ bytes.now) }
-        ensures err { OnErr result (self.new ≡ self.old) }
+        ensures appended { OnOk result (self.new ≡ self.old ++ bytes.now) }
+        ensures unchanged { OnErr result (self.new ≡ self.old) }
     {
         self.items.extend_from_slice(bytes)
     }

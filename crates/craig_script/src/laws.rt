@@ -4,7 +4,7 @@ ghost use Rattle.std.specs.Prelude.{◌≡◌, ◌≢◌, ℕ, ◌^◌, ◌<◌,
 ghost use Rattle.std.specs.Fmt.{decimal, signed_decimal};
 ghost use Rattle.std.specs.Int.RustNames.{unsigned_abs};
 ghost use Rattle.std.specs.List.{concat};
-ghost use Rattle.craig_script.specs.NumberWords.{digit_limit, number_of, literal_of};
+ghost use Rattle.craig_script.specs.NumberWords.{IsLiteralWord, number_of, literal_of};
 ghost use Rattle.craig_script.specs.declared.line.Line.{Line};
 ghost use Rattle.craig_script.specs.Lines.{LinesView, before_first_byte, fed, ended, with_given, all_fed, line_of, whole_lines, script_lines};
 
@@ -27,9 +27,11 @@ pub fn given_before()
     ensures ended { (given : List Line) (cut : LinesView) → ended (with_given given cut) ≡ with_given given (ended cut) }
 {}
 
-/// The numbers are the decimal forms of those below 10 ^ 18, and literals are read back.
+/// The numbers are the decimal forms of those below 10 ^ 18, and the literals those of the others than 0, with a minus
+/// sign where they are negative: no plus sign, no leading zero, and no sign before 0.
 pub fn decimal_forms()
-    ensures read { (word : List ℕ) (n : ℕ) → number_of word ≡ Some n → (word ≡ decimal n) × (n < 10 ^ digit_limit) }
-    ensures number { (n : ℕ) → n < 10 ^ digit_limit → number_of (decimal n) ≡ Some n }
-    ensures literal { (z : ℤ) → z ≢ pos 0 → unsigned_abs z < 10 ^ digit_limit → literal_of (signed_decimal z) ≡ Some z }
+    ensures read { (word : List ℕ) (n : ℕ) → number_of word ≡ Some n → (word ≡ decimal n) × (n < 10 ^ 18) }
+    ensures number { (n : ℕ) → n < 10 ^ 18 → number_of (decimal n) ≡ Some n }
+    ensures literal { (z : ℤ) → z ≢ pos 0 → unsigned_abs z < 10 ^ 18 → literal_of (signed_decimal z) ≡ Some z }
+    ensures read_literal { (word : List ℕ) (z : ℤ) → literal_of word ≡ Some z → IsLiteralWord word z }
 {}

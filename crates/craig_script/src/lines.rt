@@ -17,14 +17,19 @@ use std::mem;
 /// The most bytes of a line, its newline not counted.
 pub const LINE_LIMIT: usize = 1048576;
 
+/// The byte that ends a line.
 const NEWLINE: u8 = b'\n';
 
 /// A stream of bytes that is cut into lines as it comes.
 #[derive(Debug, Drop)]
 pub struct Lines {
+    // for the bytes of the next line
     alloc: Global,
+    // whole lines that wait to be given
     ready: VecDeque<Line>,
+    // what has come of the next line, cut off where it is enough to be overlong
     partial: Bytes,
+    // whether the stream has ended
     finished: bool,
 }
 
@@ -86,7 +91,7 @@ impl Lines {
     }
 }
 
-// Takes a piece in. All that may fail comes before the first change that shows.
+/// Takes a piece in. All that may fail comes before the first change that shows.
 fn take_in(
     alloc: Global,
     ready: &mut VecDeque<Line>,
@@ -108,7 +113,7 @@ fn take_in(
     ready.append(&mut lines)
 }
 
-// The whole lines of the bytes, and what is kept of the part after the last newline.
+/// The whole lines of the bytes, and what is kept of the part after the last newline.
 fn cut_lines(alloc: Global, bytes: &[u8]) -> Result<(VecDeque<Line>, Bytes), AllocError>
     ensures { IfOk result (λ cut. IsPartial cut.1 × (unended cut.0.items cut.1 ≡ fed before_first_byte bytes.now)) }
 {
@@ -125,7 +130,7 @@ fn cut_lines(alloc: Global, bytes: &[u8]) -> Result<(VecDeque<Line>, Bytes), All
     Ok((lines, partial))
 }
 
-// A line of these bytes.
+/// A line of these bytes.
 fn line_in(bytes: Bytes) -> Line
     ensures { result ≡ line_of bytes }
 {
@@ -136,7 +141,7 @@ fn line_in(bytes: Bytes) -> Line
     }
 }
 
-// Takes as many of the bytes as still tell what the line is.
+/// Takes as many of the bytes as still tell what the line is.
 fn keep(partial: &mut Bytes, bytes: &[u8]) -> Result<(), AllocError>
     requires partial { IsPartial partial.old }
     requires open_ended { has_newline bytes.now ≡ false }
@@ -149,7 +154,7 @@ fn keep(partial: &mut Bytes, bytes: &[u8]) -> Result<(), AllocError>
     partial.extend_from_slice(&bytes[..fitting])
 }
 
-// What stands before the first newline and what stands behind it.
+/// What stands before the first newline and what stands behind it.
 fn split_line(bytes: &[u8]) -> Option<(&[u8], &[u8])>
     ensures none { IfNone result (has_newline bytes.now ≡ false) }
     ensures some { IfSome result (λ cut. (bytes.now ≡ cut.0.now ++ 10 ∷ cut.1.now) × (has_newline cut.0.now ≡ false)) }
@@ -158,7 +163,7 @@ fn split_line(bytes: &[u8]) -> Option<(&[u8], &[u8])>
     Some((&bytes[..end], &bytes[end + 1..]))
 }
 
-// Where the first newline stands.
+/// Where the first newline stands.
 fn newline_position(bytes: &[u8]) -> Option<usize>
     ensures { result ≡ position is_newline bytes.now }
 {

@@ -19,7 +19,7 @@ pub fn literal_in(word: &[u8]) -> Option<i64>
     }
 }
 
-// The number that the word writes, where it isn't 0.
+/// The number that the word writes, where it isn't 0.
 fn nonzero_in(word: &[u8]) -> Option<u64>
     ensures value { result ≡ unless_zero (number_of word.now) }
     ensures bound { IfSome result (λ number. number < 10 ^ digit_limit) }
@@ -42,7 +42,7 @@ pub fn number_in(word: &[u8]) -> Option<u64>
     }
 }
 
-// Whether the word is a number.
+/// Whether the word is a number.
 fn writes_number(word: &[u8]) -> bool
     ensures { result ≡ is_number word.now }
 {
@@ -52,14 +52,14 @@ fn writes_number(word: &[u8]) -> bool
         && are_digits(word)
 }
 
-// Whether each byte is a digit.
+/// Whether each byte is a digit.
 fn are_digits(word: &[u8]) -> bool
     ensures { result ≡ list_all is_ascii_digit word.now }
 {
     word.iter().all(|byte| byte.is_ascii_digit())
 }
 
-// The number that the digits write.
+/// The number that the digits write.
 fn value_of(digits: &[u8]) -> u64
     requires digits { IsTrue (list_all is_ascii_digit digits.now) }
     requires short { length digits.now ≤ digit_limit }

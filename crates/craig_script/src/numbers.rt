@@ -8,6 +8,7 @@ use std::marker::Model;
 /// A list of signed numbers. As literals each is a variable of the script, negative where it is negated.
 #[derive(Debug, Drop)]
 pub struct Numbers {
+    // first to last
     items: Vec<i64>,
 }
 
@@ -29,8 +30,8 @@ impl Numbers {
 
     /// Appends a number. After an error, for which only want of memory is a cause, the list is as before.
     pub fn push(&mut self, item: i64) -> Result<(), AllocError>
-        ensures ok { OnOk result (self.new ≡ self.old ++ item ∷ []) }
-        ensures err { OnErr result (self.new ≡ self.old) }
+        ensures pushed { OnOk result (self.new ≡ self.old ++ item ∷ []) }
+        ensures unchanged { OnErr result (self.new ≡ self.old) }
     {
         self.items.push(item)?;
         Ok(())

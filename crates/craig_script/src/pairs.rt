@@ -8,6 +8,7 @@ use std::marker::Model;
 /// A list of pairs. The first of each is a part, and the second a literal that is assumed in it.
 #[derive(Debug, Drop)]
 pub struct Pairs {
+    // first to last, each a part and a literal
     items: Vec<(u64, i64)>,
 }
 
@@ -29,8 +30,8 @@ impl Pairs {
 
     /// Appends a pair. After an error, for which only want of memory is a cause, the list is as before.
     pub fn push(&mut self, item: (u64, i64)) -> Result<(), AllocError>
-        ensures ok { OnOk result (self.new ≡ self.old ++ item ∷ []) }
-        ensures err { OnErr result (self.new ≡ self.old) }
+        ensures pushed { OnOk result (self.new ≡ self.old ++ item ∷ []) }
+        ensures unchanged { OnErr result (self.new ≡ self.old) }
     {
         self.items.push(item)?;
         Ok(())

@@ -32,7 +32,7 @@ pub fn parse(alloc: Global, line: &Line) -> Result<Command, LineFault>
     }
 }
 
-// The command that the words ask for.
+/// The command that the words ask for.
 fn command(alloc: Global, line: &[u8]) -> Result<Command, LineFault>
     ensures read { IsReadAs result (command_of (words line.now)) }
     ensures memory { IsErrAnd result IsNoMemory → IsTrue (begins_clause (words line.now)) }
@@ -51,7 +51,7 @@ fn command(alloc: Global, line: &[u8]) -> Result<Command, LineFault>
     }
 }
 
-// A part, literals, and the end.
+/// A part, literals, and the end.
 fn add(alloc: Global, line: &[u8]) -> Result<Command, LineFault>
     ensures read { IsReadAs result (add_of (words line.now)) }
     ensures memory { IsErrAnd result IsNoMemory → IsTrue (begins_with_part_and_literal (words line.now)) }
@@ -66,7 +66,7 @@ fn add(alloc: Global, line: &[u8]) -> Result<Command, LineFault>
     Ok(Command::Add { part, lits })
 }
 
-// The end alone.
+/// The end alone.
 fn solve(alloc: Global, line: &[u8]) -> Result<Command, LineFault>
     ensures read { IsReadAs result (solve_of (words line.now)) }
     ensures memory { IsErrAnd result IsNoMemory → ⊥ }
@@ -79,7 +79,7 @@ fn solve(alloc: Global, line: &[u8]) -> Result<Command, LineFault>
     }
 }
 
-// Literals, and the end.
+/// Literals, and the end.
 fn literals(alloc: Global, line: &[u8]) -> Result<Numbers, LineFault>
     ensures read { IsReadAs result (literals_to_end (words line.now)) }
     ensures memory { IsErrAnd result IsNoMemory → IsTrue (begins_with_literal (words line.now)) }
@@ -103,14 +103,14 @@ fn literals(alloc: Global, line: &[u8]) -> Result<Numbers, LineFault>
     Err(LineFault::Refused(Refusal::Syntax))
 }
 
-// Whether the word begins a comment.
+/// Whether the word begins a comment.
 fn begins_comment(word: &[u8]) -> bool
     ensures { result ≡ is_comment word.now }
 {
     word.first() == Some(&b'#')
 }
 
-// Whether the word is this one.
+/// Whether the word is this one.
 fn is_word(word: &[u8], name: &[u8]) -> bool
     ensures { result ≡ bytes_eq word.now name.now }
 {

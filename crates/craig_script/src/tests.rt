@@ -1,10 +1,12 @@
+//! Streams, lines and commands, each with what is to be read.
+
 ghost use Rattle.std.specs.Prelude.{◌<◌};
 
 use super::*;
 use std::alloc::{AllocError, Global};
 use std::test::*;
 
-// The lines of a stream that comes in pieces of this size.
+/// The lines of a stream that comes in pieces of this size.
 fn lines_of(alloc: Global, stream: &[u8], size: usize) -> Result<Vec<Line>, AllocError>
     requires { 0 < size }
 {
@@ -20,7 +22,7 @@ fn lines_of(alloc: Global, stream: &[u8], size: usize) -> Result<Vec<Line>, Allo
     Ok(found)
 }
 
-// A line of these bytes.
+/// A line of these bytes.
 fn text(alloc: Global, bytes: &[u8]) -> Result<Line, AllocError> {
     let mut line = Bytes::new(alloc);
     for byte in bytes {
@@ -29,7 +31,7 @@ fn text(alloc: Global, bytes: &[u8]) -> Result<Line, AllocError> {
     Ok(Line::Text(line))
 }
 
-// How a line of these bytes is read where there are so many parts.
+/// How a line of these bytes is read where there are so many parts.
 fn read(alloc: Global, parts: u16, bytes: &[u8]) -> Result<Command, LineFault> {
     let line = text(alloc, bytes).map_err(LineFault::NoMemory)?;
     let command = parse(alloc, &line)?;
@@ -49,6 +51,29 @@ const LINES: [&[u8]; 6] = [
 ];
 
 #[test]
+fn a_command_that_comes_in_two_pieces_is_one_line(rt: HostRuntime) -> Result<(), Fail> {
+    let mut lines = Lines::new(rt.alloc());
+    lines.feed(b"so")?;
+    lines.feed(b"lve 0\n")?;
+    lines.finish()?;
+    let Some(line) = lines.next() else {
+        panic!(rt; "no line");
+    };
+    let None = lines.next() else {
+        panic!(rt; "a second line");
+    };
+    let Line::Text(bytes) = &line else {
+        panic!(rt; "an overlong line");
+    };
+    assert_eq!(rt; bytes.as_slice(), b"solve 0".as_slice());
+    let Ok(Command::Solve(pairs)) = parse(rt.alloc(), &line) else {
+        panic!(rt; "no solve");
+    };
+    assert!(rt; pairs.as_slice().is_empty());
+    Ok(())
+}
+
+#[test]
 fn pieces_of_any_size_give_the_same_lines(rt: HostRuntime) -> Result<(), Fail> {
     for size in [1, 7, 65536] {
         let found = lines_of(rt.alloc(), STREAM, size)?;
@@ -64,7 +89,7 @@ fn pieces_of_any_size_give_the_same_lines(rt: HostRuntime) -> Result<(), Fail> {
     Ok(())
 }
 
-// Whether a comment of so many bytes is overlong, where it comes in pieces of this size.
+/// Whether a comment of so many bytes is overlong, where it comes in pieces of this size.
 fn is_overlong(alloc: Global, len: usize, size: usize) -> Result<bool, AllocError>
     requires { 0 < size }
 {
@@ -103,7 +128,7 @@ fn a_line_without_words_or_with_a_comment_is_nothing(rt: HostRuntime) {
     }
 }
 
-// Whether the line adds this clause.
+/// Whether the line adds this clause.
 fn adds(alloc: Global, line: &[u8], part: u64, lits: &[i64]) -> bool {
     match &read(alloc, 2, line) {
         Ok(
@@ -133,7 +158,7 @@ fn commands_are_read(rt: HostRuntime) {
     assert!(rt; solves);
 }
 
-// Why the line is refused where there are two parts.
+/// Why the line is refused where there are two parts.
 fn refusal_of(alloc: Global, line: &[u8]) -> Option<Refusal> {
     match read(alloc, 2, line) {
         Err(LineFault::Refused(refusal)) => Some(refusal),

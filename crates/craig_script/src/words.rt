@@ -15,14 +15,14 @@ pub fn next_word(line: &[u8]) -> Option<(&[u8], &[u8])>
     Some(from.split_at(word_end(from)))
 }
 
-// Where the first word begins.
+/// Where the first word begins.
 fn word_start(line: &[u8]) -> Option<usize>
     ensures { result ≡ position (λ byte. not (is_separator byte)) line.now }
 {
     line.iter().position(|byte| !separates(*byte))
 }
 
-// Where the first separator stands, or else the end.
+/// Where the first separator stands, or else the end.
 fn word_end(line: &[u8]) -> usize
     ensures place { result ≡ position_or_len is_separator line.now }
     ensures within { result ≤ length line.now }
@@ -30,14 +30,14 @@ fn word_end(line: &[u8]) -> usize
     separator_position(line).unwrap_or(line.len())
 }
 
-// Where the first separator stands.
+/// Where the first separator stands.
 fn separator_position(line: &[u8]) -> Option<usize>
     ensures { result ≡ position is_separator line.now }
 {
     line.iter().position(|byte| separates(*byte))
 }
 
-// Whether the byte separates words.
+/// Whether the byte separates words.
 fn separates(byte: u8) -> bool
     ensures { result ≡ is_separator byte }
 {

@@ -1,8 +1,8 @@
 -- Members of lists, tests and places.
-use Rattle.std.proofs.Common.{◌≡◌, ◌∙◌, sym, ap, refl, ℕ, zero, suc, ◌<◌, Bool, true, ◌⊎◌, List, [], ◌∷◌, length, map, All, Contains, Some, option_map, slice_get, arith, filter, inl, inr}
+use Rattle.std.proofs.Common.{◌≡◌, ◌∙◌, sym, ap, refl, ℕ, zero, suc, ◌<◌, Bool, true, ◌⊎◌, List, [], ◌∷◌, length, length-take, take, map, All, Contains, Some, option_map, slice_get, arith, filter, inl, inr}
 use Rattle.std.specs.List.{list_any, list_all}
 use Rattle.std.proofs.lemmas.Bool.{and_parts, or_left, or_right, or_cases}
-use Rattle.std.proofs.lemmas.List.{get_or-map, length-map}
+use Rattle.std.proofs.lemmas.List.{get_or-map, get_or-take, length-map}
 use Rattle.std.proofs.lemmas.Option.{slice_get-map}
 
 pub Contains-front : {A : Type 0} (x : A) (xs : List A) → Contains (x ∷ xs) x
@@ -89,3 +89,9 @@ slice_get-below (y ∷ xs) (suc k) x e = (let h : k < length xs = slice_get-belo
 pub filter-all : {A : Type 0} (xs : List A) → xs ≡ filter (λ _. true) xs
 filter-all [] = refl
 filter-all (x ∷ xs) = ap (λ ys. x ∷ ys) (filter-all xs)
+
+-- a member of the front is one of the whole
+pub Contains-take : {A : Type 0} (n : ℕ) (xs : List A) (x : A) → Contains (take n xs) x → Contains xs x
+Contains-take n xs x (k, within, at) =
+    let before : k < n = omega (arith, within, length-take n xs) in
+    (k, omega (arith, within, length-take n xs), sym (get_or-take n xs k x before) ∙ at)

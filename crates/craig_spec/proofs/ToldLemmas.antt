@@ -41,15 +41,15 @@ IsUnforgotten-pushed (r ∷ steps) s x h =
     ]
 
 -- the look-up gives each antecedent of a chain, and of a step that stands
-chain_given : (f : ℕ → Option Clause) (c : Clause) (rest : List ChainStep) (last : Clause) (x : ℕ) → IsChain f c rest last → Contains (map (λ s. s.antecedent) rest) x → (d : Clause) × (f x ≡ Some d)
-chain_given f c [] last x chain (k, within, at) = absurd (omega arith)
-chain_given f c (s ∷ rest) last x (d, r, is, resolved, more) (zero, within, at) = (d, subst (λ (y : ℕ). f y ≡ Some d) at is)
-chain_given f c (s ∷ rest) last x (d, r, is, resolved, more) (suc k, within, at) = chain_given f r rest last x more (k, omega arith, at)
+pub IsChain-given : (f : ℕ → Option Clause) (c : Clause) (rest : List ChainStep) (last : Clause) (x : ℕ) → IsChain f c rest last → Contains (map (λ s. s.antecedent) rest) x → (d : Clause) × (f x ≡ Some d)
+IsChain-given f c [] last x chain (k, within, at) = absurd (omega arith)
+IsChain-given f c (s ∷ rest) last x (d, r, is, resolved, more) (zero, within, at) = (d, subst (λ (y : ℕ). f y ≡ Some d) at is)
+IsChain-given f c (s ∷ rest) last x (d, r, is, resolved, more) (suc k, within, at) = IsChain-given f r rest last x more (k, omega arith, at)
 
 pub StandsOn-given : (before : List ToldStep) (c : Clause) (origin : Origin) (x : ℕ) → StandsOn before c origin → Contains (antecedents origin) x → (d : Clause) × (clause_told before x ≡ Some d)
 StandsOn-given before c (Original part) x stands (k, within, at) = absurd (omega arith)
 StandsOn-given before c (Derived first rest) x stands (zero, within, at) = (stands.start, subst (λ (y : ℕ). clause_told before y ≡ Some stands.start) at stands.start_is)
-StandsOn-given before c (Derived first rest) x stands (suc k, within, at) = chain_given (clause_told before) stands.start rest c x stands.chain (k, omega arith, at)
+StandsOn-given before c (Derived first rest) x stands (suc k, within, at) = IsChain-given (clause_told before) stands.start rest c x stands.chain (k, omega arith, at)
 
 -- a root needs itself, and what an antecedent of a step needs, the step needs
 pub IsNeeded-root : (steps : List ToldStep) (root : ℕ) → IsNeeded steps root root

@@ -11,7 +11,7 @@ use Rattle.craig_spec.specs.Needed.{IsOriginal, unforgotten}
 use Rattle.craig_spec.specs.PartialInterpolant.{Labelling, AB, partial_interpolant}
 use Rattle.craig_base.specs.declared.script_part.Part.{Part}
 use Rattle.craig_label.specs.Sides.{SidesView}
-use Rattle.craig_proof.specs.Marks.{last_id}
+use Rattle.craig_proof.specs.NeededMarks.{last_id}
 use Rattle.craig_aiger.specs.Layouts.{dense_assignment}
 use Rattle.craig_itp.specs.Labellings.{cut_value}
 use Rattle.craig_solver.specs.Told.{AreAccepted}

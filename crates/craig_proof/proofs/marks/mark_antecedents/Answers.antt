@@ -1,5 +1,5 @@
 use Rattle.std.proofs.Common.{map}
-use Rattle.craig_proof.specs.Marks.{HasId}
+use Rattle.craig_proof.specs.NeededMarks.{HasId}
 use Rattle.craig_proof.specs.StoredSteps.{step_of}
 use Rattle.craig_proof.proofs.MarksLemmas.{All-chain, antecedents_marked}
 use Rattle.craig_proof.proofs.marks.mark_antecedents.Goals as goal

@@ -1,5 +1,5 @@
 use Rattle.std.proofs.Common.{◌≤◌, length, map}
-use Rattle.craig_proof.specs.Marks.{mark_of}
+use Rattle.craig_proof.specs.NeededMarks.{mark_of}
 use Rattle.craig_proof.specs.StoredSteps.{step_of}
 use Rattle.craig_proof.proofs.MarksLemmas.{BackMarks}
 use Rattle.craig_proof.proofs.marks.mark_back.Given as goal

@@ -1,6 +1,6 @@
 use Rattle.std.proofs.Common.{◌≡◌, ℕ, ◌||◌, eqb, map, take}
 use Rattle.std.specs.List.{list_any}
-use Rattle.craig_proof.specs.Marks.{mark_of}
+use Rattle.craig_proof.specs.NeededMarks.{mark_of}
 use Rattle.craig_proof.specs.StoredSteps.{step_of}
 use Rattle.craig_proof.proofs.marks.mark_chain.Given as goal
 

@@ -1,7 +1,7 @@
 use Rattle.std.proofs.Common.{◌≡◌, ◌<◌, true, false, length, map, ap, sym, ◌∙◌, arith}
 use Rattle.std.proofs.lemmas.List.{length-map}
 use Rattle.craig_spec.specs.Chain.{ToldStep}
-use Rattle.craig_proof.specs.Marks.{mark_of}
+use Rattle.craig_proof.specs.NeededMarks.{mark_of}
 use Rattle.craig_proof.specs.StoredSteps.{step_of}
 use Rattle.craig_proof.proofs.StoredLemmas.{stored_at}
 use Rattle.craig_proof.proofs.MarksLemmas.{mark_of-at}

@@ -1,5 +1,5 @@
 use Rattle.std.proofs.Common.{◌≡◌, map}
-use Rattle.craig_proof.specs.Marks.{mark_of}
+use Rattle.craig_proof.specs.NeededMarks.{mark_of}
 use Rattle.craig_proof.specs.StoredSteps.{step_of}
 use Rattle.craig_proof.proofs.ReplayLemmas.{IsTellingUpTo}
 use Rattle.craig_proof.proofs.replay.tell_marked.Given as goal

@@ -14,8 +14,8 @@ returns-clause-partial c =
     either_way c.extend_from_slice.result
     (on_ok_weaker c.extend_from_slice.result
     (λ h. subst P (sym (h ∙ as_cut_back c)) (cut_back-IsPartial (c.args.partial.now ++ c.args.bytes.now) (has_newline-append c.args.partial.now c.args.bytes.now c.requires.partial.open_ended c.requires.open_ended)))
-    c.extend_from_slice.ensures.ok)
-    (on_err_weaker c.extend_from_slice.result (λ h. subst P (sym h) c.requires.partial) c.extend_from_slice.ensures.err)
+    c.extend_from_slice.ensures.appended)
+    (on_err_weaker c.extend_from_slice.result (λ h. subst P (sym h) c.requires.partial) c.extend_from_slice.ensures.unchanged)
 
 pub returns-clause-ok : goal.returns-clause-ok
-returns-clause-ok c = on_ok_weaker c.extend_from_slice.result (λ h. h ∙ as_cut_back c) c.extend_from_slice.ensures.ok
+returns-clause-ok c = on_ok_weaker c.extend_from_slice.result (λ h. h ∙ as_cut_back c) c.extend_from_slice.ensures.appended

@@ -1,6 +1,6 @@
 use Rattle.std.proofs.Common.{ap, map, ◌∙◌}
 use Rattle.std.proofs.lemmas.Result.{on_ok_weaker}
-use Rattle.craig_proof.specs.Marks.{last_id, mark_of}
+use Rattle.craig_proof.specs.NeededMarks.{last_id, mark_of}
 use Rattle.craig_proof.specs.StoredSteps.{step_of}
 use Rattle.craig_proof.proofs.ToldLemmas.{HasId-unforgotten}
 use Rattle.craig_proof.proofs.MarksLemmas.{IsNeededPart-marks}

@@ -1,7 +1,8 @@
 use Rattle.std.proofs.Common.{◌≡◌, [], ◌∷◌, refl, ◌∙◌, arith}
 use Rattle.std.proofs.lemmas.Result.{on_ok_weaker}
 use Rattle.craig_proof.specs.Tracer.{original_step}
-use Rattle.craig_proof.proofs.CallerLemmas.{before_step, greatest_is, three_steps, ChainOk-units, IsUnforgotten-units, IsUnforgotten-last, IsUnforgotten-told, is_some-told}
+use Rattle.craig_proof.proofs.AppendsLemmas.{before_step}
+use Rattle.craig_proof.proofs.CallerLemmas.{greatest_is, three_steps, ChainOk-units, IsUnforgotten-units, IsUnforgotten-last, IsUnforgotten-told, is_some-told}
 use Rattle.craig_proof.proofs.chain_store.tests.tell_refutation.Goals as goal
 
 pub original-requires-2-clause-above : goal.original-requires-2-clause-above

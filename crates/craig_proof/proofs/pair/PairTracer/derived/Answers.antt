@@ -8,6 +8,10 @@ pub derived-requires-clause-unforgotten : goal.derived-requires-clause-unforgott
 derived-requires-clause-unforgotten g c =
     first_meets (λ t. All (IsUnforgotten t.steps) (antecedents (Derived c.args.first.0 (chain_of c.args.rest.now)))) _ _ c.self.inside.dead c.if-self.false (rw (← c.self.view_is) at c.requires.unforgotten)
 
+pub derived-requires-clause-chain : goal.derived-requires-clause-chain
+derived-requires-clause-chain g c =
+    first_meets (λ t. ChainOk (clause_told t.steps) c.args.lits.now c.args.first.0 (chain_of c.args.rest.now)) _ _ c.self.inside.dead c.if-self.false (rw (← c.self.view_is) at c.requires.chain)
+
 pub derived-requires-2-clause-above : goal.derived-requires-2-clause-above
 derived-requires-2-clause-above g c =
     second_meets (λ t. IsAbove t c.args.id.0) _ _ c.self.inside.dead c.if-self.false (c.self.invariant c.if-self.false) (rw (← c.self.view_is) at c.requires.above)

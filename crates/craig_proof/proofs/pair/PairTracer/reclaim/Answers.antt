@@ -1,4 +1,4 @@
-use Rattle.craig_proof.proofs.ToldLemmas.{Reclaims-nothing}
+use Rattle.craig_spec.proofs.ToldLemmas.{Reclaims-nothing}
 use Rattle.craig_proof.proofs.pair.PairTracer.reclaim.Goals as goal
 
 pub returns-clause-told : goal.returns-clause-told

@@ -22,6 +22,9 @@ HasId steps id = IsTrue (list_any (λ s. nat_eq s.id id) steps)
 
 -- exactly the steps that the root needs are marked
 pub record AreNeededMarks (steps : List ToldStep) (root : ℕ) (marks : List Bool) : Type 0 where
+  -- there is a mark for each step
   pub lengths : length marks ≡ length steps
+  -- the antecedents of a marked step are marked
   pub closed : IsClosed steps (mark_of steps marks)
+  -- a step is marked where the root needs it, and only there
   pub needed : (s : ToldStep) → Contains steps s → IsTrue (mark_of steps marks s.id) ↔ IsNeeded steps root s.id

@@ -1,5 +1,7 @@
 -- A small refutation, and sides that note its variables.
 use Rattle.std.proofs.Common.{◌≡◌, ◌≢◌, ◌⊎◌, inl, inr, ℕ, zero, suc, ◌+◌, ◌<◌, ◌≤◌, Bool, true, false, cond, ◌||◌, eqb, List, [], ◌∷◌, ◌++◌, length, get_or, take, Contains, IsTrue, Option, None, Some, refl, sym, ap, ◌∙◌, subst, arith, eqb-true, eq-eqb}
+use Rattle.std.proofs.Math.Bool.{or-false}
+use Rattle.std.proofs.lemmas.Bool.{or_cases}
 use Rattle.std.proofs.lemmas.List.{take_more}
 use Rattle.std.proofs.lemmas.List.Elements.{Contains-push_cases}
 use Rattle.std.proofs.lemmas.List.Folds.{list_any-append}
@@ -39,15 +41,10 @@ Spans-now old new x part noted =
     (widened (range_of old x) part, rw hit at (noted.ranges x), w.0, w.1)
 
 -- the variables of the literals so far, with those of the next one
-or_cases : (b c : Bool) → (b || (c || false)) ≡ true → (b ≡ true) ⊎ (c ≡ true)
-or_cases true c h = inl refl
-or_cases false true h = inr refl
-or_cases false false h = absurd (let no : false ≡ true = h in cc)
-
 pub occurs_more : (x k : ℕ) (c : Clause) (l : Literal) → k < length c → l ≡ get_or c k l → IsTrue (occurs_in_clause x (take (k + 1) c)) → IsTrue (occurs_in_clause x (take k c)) ⊎ (x ≡ l.var)
 occurs_more x k c l within is h =
     let at : occurs_in_clause x (take (k + 1) c) ≡ (occurs_in_clause x (take k c) || (eqb x (get_or c k l).var || false)) = ap (occurs_in_clause x) (take_more c k l within) ∙ list_any-append (λ (m : Literal). eqb x m.var) (take k c) (get_or c k l ∷ []) in
-    elim (or_cases (occurs_in_clause x (take k c)) (eqb x (get_or c k l).var) (sym at ∙ h)) [
+    elim (or_cases (occurs_in_clause x (take k c)) (eqb x (get_or c k l).var) (ap (λ b. occurs_in_clause x (take k c) || b) (sym (or-false (eqb x (get_or c k l).var))) ∙ sym at ∙ h)) [
       | inl before ↦ inl before
       | inr here ↦ inr (eqb-true x (get_or c k l).var here ∙ ap (λ (m : Literal). m.var) (sym is))
     ]
@@ -140,21 +137,25 @@ IsResolvent-units l = record {
   );
 }
 
--- the steps after three, from nothing
-three_steps : (z one two x : Told) (s0 s1 s2 : ToldStep) → z ≡ nothing_told → one ≡ with_step z s0 → two ≡ with_step one s1 → x ≡ with_step two s2 → x.steps ≡ s0 ∷ s1 ∷ s2 ∷ []
-three_steps z one two x s0 s1 s2 e0 e1 e2 e3 =
-    ap (λ (u : Told). u.steps) e3 ∙ ap (λ (u : Told). u.steps ++ s2 ∷ []) e2 ∙ ap (λ (u : Told). (u.steps ++ s1 ∷ []) ++ s2 ∷ []) e1 ∙ ap (λ (u : Told). ((u.steps ++ s0 ∷ []) ++ s1 ∷ []) ++ s2 ∷ []) e0
+-- the steps after four, from nothing
+four_steps : (z one two three t : Told) (s0 s1 s2 s3 : ToldStep) → z ≡ nothing_told → one ≡ with_step z s0 → two ≡ with_step one s1 → three ≡ with_step two s2 → t ≡ with_step three s3 → t.steps ≡ s0 ∷ s1 ∷ s2 ∷ s3 ∷ []
+four_steps z one two three t s0 s1 s2 s3 e0 e1 e2 e3 e4 =
+    ap (λ (u : Told). u.steps) e4 ∙ ap (λ (u : Told). u.steps ++ s3 ∷ []) e3 ∙ ap (λ (u : Told). (u.steps ++ s2 ∷ []) ++ s3 ∷ []) e2
+    ∙ ap (λ (u : Told). ((u.steps ++ s1 ∷ []) ++ s2 ∷ []) ++ s3 ∷ []) e1 ∙ ap (λ (u : Told). (((u.steps ++ s0 ∷ []) ++ s1 ∷ []) ++ s2 ∷ []) ++ s3 ∷ []) e0
 
-chain_of_three : (x y : Literal) (p q r : ℕ) → x.var ≢ y.var → ChainOk (clause_told (original_step 0 p (x ∷ []) ∷ original_step 1 q (negation x ∷ y ∷ []) ∷ original_step 2 r (negation y ∷ []) ∷ [])) [] 0 (record { pivot = x; antecedent = 1 } ∷ record { pivot = y; antecedent = 2 } ∷ [])
-chain_of_three x y p q r other = record {
+-- the chain of the refutation
+abbrev pub pivots : Literal → Literal → List ChainStep
+pivots x y = record { pivot = x; antecedent = 1 } ∷ record { pivot = y; antecedent = 2 } ∷ []
+
+chain_over : (x y w : Literal) (p q r : ℕ) → x.var ≢ y.var → ChainOk (clause_told (original_step 0 p (x ∷ []) ∷ original_step 1 q (negation x ∷ y ∷ []) ∷ original_step 2 r (negation y ∷ []) ∷ original_step 3 r (x ∷ w ∷ []) ∷ [])) [] 0 (pivots x y)
+chain_over x y w p q r other = record {
   start = x ∷ [];
   start_is = refl;
   chain = (negation x ∷ y ∷ [], y ∷ [], refl, IsResolvent-unit x y other, (negation y ∷ [], [], refl, IsResolvent-units y, λ n. (λ h. h, λ h. h)));
 }
 
--- the chain of the refutation
-pub ChainOk-refutation : (z one two t : Told) (x y nx ny : Literal) (p q r : ℕ) → x.var ≢ y.var → nx ≡ negation x → ny ≡ negation y → z ≡ nothing_told → one ≡ with_step z (original_step 0 p (x ∷ [])) → two ≡ with_step one (original_step 1 q (nx ∷ y ∷ [])) → t ≡ with_step two (original_step 2 r (ny ∷ [])) → (u : Told) → Some t ≡ Some u → ChainOk (clause_told u.steps) [] 0 (record { pivot = x; antecedent = 1 } ∷ record { pivot = y; antecedent = 2 } ∷ [])
-ChainOk-refutation z one two t x y nx ny p q r other nx_is ny_is e0 e1 e2 e3 u is =
+pub ChainOk-refutation : (z one two three t : Told) (x y nx ny w : Literal) (p q r : ℕ) → x.var ≢ y.var → nx ≡ negation x → ny ≡ negation y → z ≡ nothing_told → one ≡ with_step z (original_step 0 p (x ∷ [])) → two ≡ with_step one (original_step 1 q (nx ∷ y ∷ [])) → three ≡ with_step two (original_step 2 r (ny ∷ [])) → t ≡ with_step three (original_step 3 r (x ∷ w ∷ [])) → (u : Told) → Some t ≡ Some u → ChainOk (clause_told u.steps) [] 0 (pivots x y)
+ChainOk-refutation z one two three t x y nx ny w p q r other nx_is ny_is e0 e1 e2 e3 e4 u is =
     let same : t ≡ u = cc in
-    subst (λ (v : Told). ChainOk (clause_told v.steps) [] 0 (record { pivot = x; antecedent = 1 } ∷ record { pivot = y; antecedent = 2 } ∷ [])) same
-    (rw (three_steps z one two t (original_step 0 p (x ∷ [])) (original_step 1 q (nx ∷ y ∷ [])) (original_step 2 r (ny ∷ [])) e0 e1 e2 e3, nx_is, ny_is) (chain_of_three x y p q r other))
+    subst (λ (v : Told). ChainOk (clause_told v.steps) [] 0 (pivots x y)) same
+    (rw (four_steps z one two three t (original_step 0 p (x ∷ [])) (original_step 1 q (nx ∷ y ∷ [])) (original_step 2 r (ny ∷ [])) (original_step 3 r (x ∷ w ∷ [])) e0 e1 e2 e3 e4, nx_is, ny_is) (chain_over x y w p q r other))

@@ -11,10 +11,6 @@ use Rattle.craig_aig.specs.declared.node.Node.{Node}
 use Rattle.craig_itp.specs.CutTracer.{CutTracerView, Setting}
 use Rattle.craig_itp.specs.Interpolants.{IsNotedStep, AreNoted, NeededAreNoted, HasPartialValue, HasSharedInputs, IsInterpolant}
 
--- the root is needed
-pub root_is_needed : (steps : List ToldStep) (root : ℕ) → IsNeeded steps root root
-root_is_needed steps root = λ p h closed. h
-
 -- what was told is the part that the root needs
 pub told_part : (steps : List ToldStep) (root : ℕ) (t : Told) → (u : Told) × (Some t ≡ Some u) × (u.greatest ≡ Some root) × IsNeededPart steps root u.steps → IsNeededPart steps root t.steps
 told_part steps root t (u, is, greatest, part) = let same : u ≡ t = cc in subst (λ (v : Told). IsNeededPart steps root v.steps) same part

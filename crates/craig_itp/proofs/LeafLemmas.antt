@@ -1,31 +1,18 @@
 -- What the values of leaves say of literals.
-use Rattle.std.proofs.Common.{◌≡◌, inl, inr, ℕ, suc, zero, Bool, true, false, cond, not, eqb, eq-eqb, [], ◌∷◌, Contains, refl, sym, subst, ◌∙◌, arith}
+use Rattle.std.proofs.Common.{◌≡◌, inl, inr, ℕ, suc, zero, Bool, true, false, cond, not, [], ◌∷◌, Contains, refl, sym, subst, ◌∙◌, arith}
 use Rattle.std.specs.List.{filter, list_all}
 use Rattle.std.proofs.lemmas.Bool.{or_cases, or_left, or_right, and_from, and_parts, cases_Bool, not-true, not_from_false}
 use Rattle.craig_spec.specs.Literal.{Literal, Clause}
 use Rattle.craig_spec.specs.Occurs.{occurs_in_clause}
 use Rattle.craig_spec.specs.Truth.{Assignment, literal_value, clause_value}
 use Rattle.craig_spec.specs.PartialInterpolant.{Label, A, AB, B, is_a, is_b, Labelling, leaf_a_value, leaf_b_value}
+use Rattle.craig_spec.proofs.ClauseLemmas.{clause_value-find, occurs_in_clause-member}
 use Rattle.craig_spec.proofs.MemberLemmas.{Contains-cases, Contains-front, Contains-later}
 use Rattle.craig_itp.specs.Labellings.{crosses, CrossingAreFalse}
 
--- a clause is true by one of its literals
-pub true_literal : (s : Assignment) (c : Clause) → clause_value s c ≡ true → (m : Literal) × Contains c m × (literal_value s m ≡ true)
-true_literal s [] h = absurd (let no : false ≡ true = h in cc)
-true_literal s (m ∷ c) h =
-    elim (or_cases (literal_value s m) (clause_value s c) h) [
-      | inl here ↦ (m, Contains-front m c, here)
-      | inr rest ↦ let n = true_literal s c rest in (n.0, Contains-later m c n.0 n.1, n.2)
-    ]
-
 -- the variable of each literal occurs in the clause
-occurs-first : (m : Literal) (c : Clause) → occurs_in_clause m.var (m ∷ c) ≡ true
-occurs-first m c = or_left (eqb m.var m.var) (occurs_in_clause m.var c) (eq-eqb m.var m.var refl)
-
 pub occurs_at : (c : Clause) (m : Literal) → Contains c m → occurs_in_clause m.var c ≡ true
-occurs_at [] m (k, within, at) = absurd (omega arith)
-occurs_at (n ∷ c) m (zero, within, at) = subst (λ (q : Literal). occurs_in_clause m.var (q ∷ c) ≡ true) (sym at) (occurs-first m c)
-occurs_at (n ∷ c) m (suc k, within, at) = or_right (eqb m.var n.var) (occurs_in_clause m.var c) (occurs_at c m (k, omega arith, at))
+occurs_at c m here = occurs_in_clause-member m.var c m here refl
 
 module _ (label : ℕ → Label) (s : Assignment) where
   -- some literal labelled B is true
@@ -128,7 +115,7 @@ module _ (low high : Labelling) (s : Assignment) (c : Clause) (crossing : Crossi
   -- one that is added to side A
   leaf_added-implied : clause_value s c ≡ true → leaf_b_value low.label s c ≡ true → leaf_a_value high.label s c ≡ true
   leaf_added-implied true_clause h =
-      let m = true_literal s c true_clause in
+      let m = clause_value-find s c true_clause in
       let not_a : is_a (low.label (m.0).var) ≡ false = elim (cases_Bool (is_a (low.label (m.0).var))) [
         | inl a ↦ absurd (let no : true ≡ false = sym m.2 ∙ leaf_b-false low.label s c h m.0 m.1 a in cc)
         | inr not_a ↦ not_a

@@ -1,10 +1,10 @@
 -- The values of one refutation under two labellings.
-use Rattle.std.proofs.Common.{◌≡◌, ◌⊎◌, inl, inr, ℕ, Bool, true, false, cond, not, eqb, List, [], ◌∷◌, map, Contains, Option, Some, refl, ap, sym, subst, subst₂, ◌∙◌, arith, eqb-true}
-use Rattle.std.proofs.lemmas.Bool.{eqb-false}
+use Rattle.std.proofs.Common.{◌≡◌, inl, inr, ℕ, Bool, true, false, not, List, [], ◌∷◌, map, Contains, Option, Some, refl, ap, sym, subst, subst₂, ◌∙◌, arith}
 use Rattle.craig_spec.specs.Literal.{Literal, Clause, negation}
-use Rattle.craig_spec.specs.Truth.{Assignment, literal_value, variable_value}
+use Rattle.craig_spec.specs.Truth.{Assignment, literal_value}
 use Rattle.craig_spec.specs.Chain.{ChainStep, Origin, Original, Derived, ToldStep, Told, antecedents, clause_told, IsResolvent, IsChain, StandsOn, IsTold}
 use Rattle.craig_spec.specs.PartialInterpolant.{Labelling, IsBelow, join_value, chain_value, origin_value, partial_values}
+use Rattle.craig_spec.proofs.LiteralLemmas.{literal_value-negation, same_or_not}
 use Rattle.craig_spec.proofs.MemberLemmas.{Contains-front, Contains-later}
 use Rattle.craig_spec.proofs.ToldLemmas.{IsNeeded-below, IsNeeded-root, clause_told-find}
 use Rattle.craig_itp.specs.Labellings.{MeetsRules, crosses, CrossingAreFalse, AddedHold, ValueImplies}
@@ -12,31 +12,6 @@ use Rattle.craig_itp.proofs.StandingLemmas.{each_stands, by_antecedents}
 use Rattle.craig_itp.proofs.PartialValuesLemmas.{MeetsRules-partial_values}
 use Rattle.craig_itp.proofs.JoinLemmas.{join-implied}
 use Rattle.craig_itp.proofs.LeafLemmas.{leaf-implied}
-
--- two literals are the same or not
-same_signs : (a b : Bool) → (a ≡ b) ⊎ (a ≡ b → ⊥)
-same_signs true true = inl refl
-same_signs true false = inr (λ e. cc)
-same_signs false true = inr (λ e. cc)
-same_signs false false = inl refl
-
-same_literals-cases : (l m : Literal) (b : Bool) → eqb l.var m.var ≡ b → (l.negated ≡ m.negated) ⊎ (l.negated ≡ m.negated → ⊥) → (l ≡ m) ⊎ (l ≡ m → ⊥)
-same_literals-cases l m true e (inl s) = inl (let v : l.var ≡ m.var = eqb-true l.var m.var e in λ i. record { var = v i; negated = s i })
-same_literals-cases l m true e (inr s) = inr (λ same. s (ap (λ (x : Literal). x.negated) same))
-same_literals-cases l m false e s = inr (λ same. eqb-false l.var m.var e (ap (λ (x : Literal). x.var) same))
-
-same_literals : (l m : Literal) → (l ≡ m) ⊎ (l ≡ m → ⊥)
-same_literals l m = same_literals-cases l m (eqb l.var m.var) refl (same_signs l.negated m.negated)
-
--- a negation has the other value
-negation_value-signs : (v n : Bool) → cond (not n) (not v) v ≡ not (cond n (not v) v)
-negation_value-signs true true = refl
-negation_value-signs true false = refl
-negation_value-signs false true = refl
-negation_value-signs false false = refl
-
-negation_value : (s : Assignment) (m : Literal) → literal_value s (negation m) ≡ not (literal_value s m)
-negation_value s m = negation_value-signs (variable_value s m.var) m.negated
 
 module _ (low high : Labelling) (s : Assignment) where
   -- the claim of a clause with its two values
@@ -46,15 +21,15 @@ module _ (low high : Labelling) (s : Assignment) where
   -- what is asked of a resolvent's literals holds of a parent's but for the pivot
   crossing-first : (p : Literal) (c d r : Clause) → IsResolvent p c d r → CrossingAreFalse low high s r → (crosses low high p.var ≡ true → literal_value s p ≡ false) → CrossingAreFalse low high s c
   crossing-first p c d r resolved crossing pivot m here cross =
-      elim (same_literals m p) [
+      elim (same_or_not m p) [
         | inl same ↦ subst (λ (q : Literal). crosses low high q.var ≡ true → literal_value s q ≡ false) (sym same) pivot cross
         | inr other ↦ crossing m ((resolved.literals m).1 (inl (here, other))) cross
       ]
 
   crossing-second : (p : Literal) (c d r : Clause) → IsResolvent p c d r → CrossingAreFalse low high s r → (crosses low high p.var ≡ true → not (literal_value s p) ≡ false) → CrossingAreFalse low high s d
   crossing-second p c d r resolved crossing pivot m here cross =
-      elim (same_literals m (negation p)) [
-        | inl same ↦ subst (λ (q : Literal). crosses low high q.var ≡ true → literal_value s q ≡ false) (sym same) (λ over. negation_value s p ∙ pivot over) cross
+      elim (same_or_not m (negation p)) [
+        | inl same ↦ subst (λ (q : Literal). crosses low high q.var ≡ true → literal_value s q ≡ false) (sym same) (λ over. literal_value-negation s p ∙ pivot over) cross
         | inr other ↦ crossing m ((resolved.literals m).1 (inr (here, other))) cross
       ]
 

@@ -11,7 +11,7 @@ use craig_label::Sides;
 use craig_proof::{ChainStore, Step, Tracer};
 use std::alloc::AllocError;
 
-// Notes the variables of the literals in the part.
+/// Notes the variables of the literals in the part.
 fn note_all(sides: &mut Sides, part: Part, lits: &[Lit]) -> Result<(), AllocError>
     requires first { 1 ≤ part.0 }
     requires last { part.0 ≤ sides.old.parts }
@@ -25,7 +25,7 @@ fn note_all(sides: &mut Sides, part: Part, lits: &[Lit]) -> Result<(), AllocErro
     Ok(())
 }
 
-// Tells an original, and notes its variables.
+/// Tells an original, and notes its variables.
 fn tell_original(
     store: &mut ChainStore,
     sides: &mut Sides,
@@ -46,7 +46,8 @@ fn tell_original(
     store.original(id, part, lits)
 }
 
-// Tells `[v1]`, `[~v1, v0]` and `[~v0]` as originals of the parts, and under the id 3 the empty clause.
+//// Tells `[v1]`, `[~v1, v0]`, `[~v0]` and `[v1, v2]` as originals, the last two of one part, and under the id 4 the
+/// empty clause. It doesn't need the last original, which puts the first pivot on side B too.
 pub(crate) fn tell_refutation(
     store: &mut ChainStore,
     sides: &mut Sides,
@@ -61,8 +62,8 @@ pub(crate) fn tell_refutation(
     requires second_to { second.0 ≤ sides.old.parts }
     requires third_from { 1 ≤ third.0 }
     requires third_to { third.0 ≤ sides.old.parts }
-    ensures root { OnOk result (IsUnforgotten store.new.told.steps 3) }
-    ensures empty { OnOk result (clause_told store.new.told.steps 3 ≡ Some []) }
+    ensures root { OnOk result (IsUnforgotten store.new.told.steps 4) }
+    ensures empty { OnOk result (clause_told store.new.told.steps 4 ≡ Some []) }
     ensures noted { OnOk result (AreNoted sides.new store.new.told.steps) }
     ensures parts { sides.new.parts ≡ sides.old.parts }
 {
@@ -74,6 +75,8 @@ pub(crate) fn tell_refutation(
     tell_original(store, sides, ClauseId(1), second, &middle)?;
     let end = [y.not()];
     tell_original(store, sides, ClauseId(2), third, &end)?;
+    let other = [x, Lit::new(Var(2), false)];
+    tell_original(store, sides, ClauseId(3), third, &other)?;
     let none: [Lit; 0] = [];
     let rest = [
         Step {
@@ -85,5 +88,5 @@ pub(crate) fn tell_refutation(
             antecedent: ClauseId(2),
         },
     ];
-    store.derived(ClauseId(3), &none, ClauseId(0), &rest)
+    store.derived(ClauseId(4), &none, ClauseId(0), &rest)
 }

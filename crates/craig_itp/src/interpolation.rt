@@ -110,7 +110,7 @@ mod tests {
         let edge = interpolate(
             rt.alloc(),
             &store,
-            ClauseId(3),
+            ClauseId(4),
             &sides,
             1,
             &Pudlak,
@@ -126,7 +126,7 @@ mod tests {
         let mut sides = Sides::new(rt.alloc(), 3);
         tell_refutation(&mut store, &mut sides, Part(1), Part(2), Part(3))?;
         let mut aig = Aig::new(rt.alloc());
-        let edges = sequence(rt.alloc(), &store, ClauseId(3), &sides, &Pudlak, &mut aig)?;
+        let edges = sequence(rt.alloc(), &store, ClauseId(4), &sides, &Pudlak, &mut aig)?;
         let x = aig.input(Var(1))?;
         let y = aig.input(Var(0))?;
         let expected = [Aig::constant(true), x, y, Aig::constant(false)];

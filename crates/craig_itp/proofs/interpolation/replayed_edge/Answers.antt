@@ -1,7 +1,8 @@
 use Rattle.std.proofs.Common.{refl, sym, subst}
 use Rattle.craig_itp.specs.CutTracer.{Setting, setting}
 use Rattle.craig_itp.specs.Interpolants.{NeededAreNoted, IsInterpolant}
-use Rattle.craig_itp.proofs.InterpolationLemmas.{root_is_needed, told_part, part_is_noted, interpolant_from_part}
+use Rattle.craig_spec.proofs.ToldLemmas.{IsNeeded-root}
+use Rattle.craig_itp.proofs.InterpolationLemmas.{told_part, part_is_noted, interpolant_from_part}
 use Rattle.craig_itp.proofs.ToldEdgesLemmas.{told_unforgotten}
 use Rattle.craig_itp.proofs.interpolation.replayed_edge.Goals as goal
 
@@ -22,4 +23,4 @@ returns-clause-interpolant g c =
     subst (λ (x : Setting). IsInterpolant x.sides x.cut x.marks steps root c.replay.new.into.nodes c.in-Some.edge) c.replay.ensures.kept
     (interpolant_from_part now steps c.replay.new.into.told.steps root c.replay.new.into.nodes c.in-Some.edge c.in-Some.ensures.within c.in-Some.ensures.value c.in-Some.ensures.inputs
     (part_is_noted now.sides steps c.replay.new.into.told.steps root (λ s here. c.needed_part_stands.ensures.steps steps c.replay.new.into.told.steps root s part here) noted)
-    (λ l s. c.partial_values_of_the_needed_part.ensures l s c.args.store.now.told c.each_clause_follows.ensures.told root c.replay.new.into.told.steps part root (root_is_needed steps root)))
+    (λ l s. c.partial_values_of_the_needed_part.ensures l s c.args.store.now.told c.each_clause_follows.ensures.told root c.replay.new.into.told.steps part root (IsNeeded-root steps root)))

@@ -1,5 +1,6 @@
 -- The outputs of a layout have the values and the cones of their edges.
 use Rattle.std.proofs.Common.{◌≡◌, inl, inr, ℕ, suc, ◌+◌, ◌*◌, ◌<◌, ◌/◌, ◌%◌, Bool, true, false, cond, ◌&&◌, nat_lt, eqb, List, [], ◌∷◌, ◌++◌, length, get_or, take, map, Option, Some, None, All, Contains, slice_get, refl, sym, ap, ◌∙◌, subst, arith}
+use Rattle.std.proofs.lemmas.Option.{none-some, same_Some}
 use Rattle.std.specs.Option.{is_some}
 use Rattle.std.specs.List.{filter_map}
 use Rattle.std.proofs.lemmas.Bool.Decides.{nat_tests}
@@ -19,15 +20,9 @@ use Rattle.craig_aig.specs.declared.node.Node.TheVariants.{Constant, Input, Gate
 use Rattle.craig_aiger.specs.declared.out_name.OutName.{OutName}
 use Rattle.craig_aiger.specs.Layouts.{Layout, circuit_of, at, node_variable, node_operands, gate_literals, ordered, edge_literal, dense_assignment, IsLayout, IsNumber, HasFunctions}
 use Rattle.craig_aiger.proofs.NeededLemmas.{operands_at, edge_at, place_at}
-use Rattle.craig_aiger.proofs.TableLemmas.{map_at}
+use Rattle.craig_spec.proofs.MemberLemmas.{slice_get-to_map}
 use Rattle.craig_aiger.proofs.UsedLemmas.{AreUsed-layout}
 use Rattle.craig_aiger.proofs.CircuitLemmas.{agrees, some_node}
-
-same_number : (x v : ℕ) → Some x ≡ Some v → x ≡ v
-same_number x v e = cc
-
-no_number : (v : ℕ) → None ≡ Some v → ⊥
-no_number v e = cc
 
 -- the gate of the circuit
 abbrev pub to_circuit : (ℕ × ℕ) → circuit.Gate
@@ -130,10 +125,10 @@ module _ (nodes : List Node) (names : List ℕ) (outputs : List (OutName × Edge
     value_constant k is = sym (values_from_operands (dense_assignment names s) nodes k Constant arena (at_node k Constant is))
 
     value_input : (k i x : ℕ) (n : Node) → at h.table k ≡ Some n → node_variable (Some n) ≡ Some x → slice_get layout.inputs i ≡ Some (get_or names x 0) → x < length names → get_or first (1 + i) false ≡ get_or W k false
-    value_input k i x Constant is e place within = absurd (no_number x e)
-    value_input k i x (Gate l r) is e place within = absurd (no_number x e)
+    value_input k i x Constant is e place within = absurd (none-some x e)
+    value_input k i x (Gate l r) is e place within = absurd (none-some x e)
     value_input k i x (Input v) is e place within =
-        let same : v.0 ≡ x = same_number v.0 x e in
+        let same : v.0 ≡ x = same_Some v.0 x e in
         let inside : i < length layout.inputs = slice_get_within layout.inputs i (get_or names x 0) place in
         let inside' : i < length (map (variable_value s) layout.inputs) = omega (arith, length-map layout.inputs (variable_value s)) in
         let left : get_or (map (variable_value s) layout.inputs) i false ≡ variable_value s (get_or names x 0) = get_or_default (map (variable_value s) layout.inputs) i false (variable_value s 0) inside' ∙ get_or-map (variable_value s) layout.inputs i 0 ∙ ap (variable_value s) (get_or_from_slice_get layout.inputs i (get_or names x 0) 0 place) in
@@ -163,10 +158,10 @@ module _ (nodes : List Node) (names : List ℕ) (outputs : List (OutName × Edge
         subst (λ u. Same names [] u) (sym e) (λ x. (λ m. m, λ m. m))
 
     cone_input : (k i x : ℕ) (n : Node) → at h.table k ≡ Some n → node_variable (Some n) ≡ Some x → slice_get layout.inputs i ≡ Some (get_or names x 0) → x < length names → Same names (get_or first_cones (1 + i) []) (get_or (cones nodes) k [])
-    cone_input k i x Constant is e place within = absurd (no_number x e)
-    cone_input k i x (Gate l r) is e place within = absurd (no_number x e)
+    cone_input k i x Constant is e place within = absurd (none-some x e)
+    cone_input k i x (Gate l r) is e place within = absurd (none-some x e)
     cone_input k i x (Input v) is e place within =
-        let same : v.0 ≡ x = same_number v.0 x e in
+        let same : v.0 ≡ x = same_Some v.0 x e in
         let inside : i < length layout.inputs = slice_get_within layout.inputs i (get_or names x 0) place in
         let inside' : i < length (map (λ y. y ∷ []) layout.inputs) = omega (arith, length-map layout.inputs (λ y. y ∷ [])) in
         let left : get_or (map (λ y. y ∷ []) layout.inputs) i [] ≡ get_or names x 0 ∷ [] = get_or_default (map (λ y. y ∷ []) layout.inputs) i [] (0 ∷ []) inside' ∙ get_or-map (λ y. y ∷ []) layout.inputs i 0 ∙ ap (λ y. y ∷ []) (get_or_from_slice_get layout.inputs i (get_or names x 0) 0 place) in
@@ -200,7 +195,7 @@ module _ (nodes : List Node) (names : List ℕ) (outputs : List (OutName × Edge
       )
 
   literal_is : (j : ℕ) (o : OutName × Edge) (l : OutName × ℕ) → slice_get outputs j ≡ Some o → slice_get layout.outputs j ≡ Some l → l.1 ≡ edge_literal h.numbers o.1
-  literal_is j o l at_j laid = ap (λ (p : OutName × ℕ). p.1) (one_output l (o.0, edge_literal h.numbers o.1) (sym laid ∙ ap (λ ls. slice_get ls j) h.outputs_are ∙ map_at (λ p. (p.0, edge_literal h.numbers p.1)) outputs j o at_j))
+  literal_is j o l at_j laid = ap (λ (p : OutName × ℕ). p.1) (one_output l (o.0, edge_literal h.numbers o.1) (sym laid ∙ ap (λ ls. slice_get ls j) h.outputs_are ∙ slice_get-to_map (λ p. (p.0, edge_literal h.numbers p.1)) outputs j o at_j))
 
   output_cones : ConesFromOperands → All (λ p. p.1.place < length nodes) outputs → (j : ℕ) (o : OutName × Edge) (l : OutName × ℕ) (x : ℕ) → slice_get outputs j ≡ Some o → slice_get layout.outputs j ≡ Some l → (Contains (circuit.circuit_cone (circuit_of layout) l.1) x → Contains (map (λ k. get_or names k 0) (cone nodes o.1)) x) × (Contains (map (λ k. get_or names k 0) (cone nodes o.1)) x → Contains (circuit.circuit_cone (circuit_of layout) l.1) x)
   output_cones from_operands within j o l x at_j laid =

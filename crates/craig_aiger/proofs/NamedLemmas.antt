@@ -1,5 +1,7 @@
 -- The needed inputs are in the cones of the edges.
 use Rattle.std.proofs.Common.{◌≡◌, ℕ, zero, suc, ◌<◌, Bool, true, false, ◌&&◌, nat_lt, List, [], ◌∷◌, ◌++◌, length, get_or, All, Contains, Option, Some, None, slice_get, refl, arith}
+use Rattle.std.proofs.lemmas.Option.{none-some, same_Some}
+use Rattle.std.proofs.lemmas.Bool.{and_from, and_parts}
 use Rattle.std.specs.Option.{is_some}
 use Rattle.std.specs.List.{list_all}
 use Rattle.std.proofs.lemmas.Bool.Decides.{nat_tests}
@@ -11,6 +13,7 @@ use Rattle.craig_aig.specs.Operands.{ConesFromOperands}
 use Rattle.craig_aig.specs.declared.node.Node.{Node}
 use Rattle.craig_aig.specs.declared.node.Node.TheVariants.{Constant, Input, Gate}
 use Rattle.craig_base.specs.declared.variable.Var.{Var}
+use Rattle.craig_aiger.proofs.NeededLemmas.{is_some_at}
 use Rattle.craig_aiger.specs.Layouts.{at, node_variable, AreNamed, AreNeeded, edges_of}
 use Rattle.craig_aiger.specs.declared.out_name.OutName.{OutName}
 use Rattle.std.proofs.lemmas.List.{length-map}
@@ -19,53 +22,33 @@ use Rattle.std.proofs.lemmas.List.{length-map}
 abbrev all_below : ℕ → List ℕ → Bool
 all_below n xs = list_all (λ x. nat_lt x n) xs
 
-both_true : (a b : Bool) → a ≡ true → b ≡ true → (a && b) ≡ true
-both_true a b e f = rw (e, f) refl
-
-first_true : (a b : Bool) → (a && b) ≡ true → a ≡ true
-first_true true b e = refl
-first_true false b e = e
-
-second_true : (a b : Bool) → (a && b) ≡ true → b ≡ true
-second_true true b e = e
-second_true false b e = absurd cc
-
 below_from : (n : ℕ) (xs : List ℕ) → ((x : ℕ) → Contains xs x → x < n) → all_below n xs ≡ true
 below_from n [] h = refl
 below_from n (x ∷ xs) h =
     let here : x < n = h x (0, omega arith, refl) in
     let e : nat_lt x n ≡ true = grind (arith, nat_tests, here) in
-    both_true (nat_lt x n) (all_below n xs) e (below_from n xs (λ y p. h y (suc p.0, omega (arith, p.1), p.2)))
+    and_from (nat_lt x n) (all_below n xs) e (below_from n xs (λ y p. h y (suc p.0, omega (arith, p.1), p.2)))
 
 below_append : (n : ℕ) (xs ys : List ℕ) → all_below n xs ≡ true → all_below n ys ≡ true → all_below n (xs ++ ys) ≡ true
 below_append n [] ys e f = f
-below_append n (x ∷ xs) ys e f = both_true (nat_lt x n) (all_below n (xs ++ ys)) (first_true (nat_lt x n) (all_below n xs) e) (below_append n xs ys (second_true (nat_lt x n) (all_below n xs) e) f)
+below_append n (x ∷ xs) ys e f = and_from (nat_lt x n) (all_below n (xs ++ ys)) ((and_parts (nat_lt x n) (all_below n xs) e).0) (below_append n xs ys ((and_parts (nat_lt x n) (all_below n xs) e).1) f)
 
 below_left : (n : ℕ) (xs ys : List ℕ) → all_below n (xs ++ ys) ≡ true → all_below n xs ≡ true
 below_left n [] ys e = refl
-below_left n (x ∷ xs) ys e = both_true (nat_lt x n) (all_below n xs) (first_true (nat_lt x n) (all_below n (xs ++ ys)) e) (below_left n xs ys (second_true (nat_lt x n) (all_below n (xs ++ ys)) e))
+below_left n (x ∷ xs) ys e = and_from (nat_lt x n) (all_below n xs) ((and_parts (nat_lt x n) (all_below n (xs ++ ys)) e).0) (below_left n xs ys ((and_parts (nat_lt x n) (all_below n (xs ++ ys)) e).1))
 
 below_right : (n : ℕ) (xs ys : List ℕ) → all_below n (xs ++ ys) ≡ true → all_below n ys ≡ true
 below_right n [] ys e = e
-below_right n (x ∷ xs) ys e = below_right n xs ys (second_true (nat_lt x n) (all_below n (xs ++ ys)) e)
+below_right n (x ∷ xs) ys e = below_right n xs ys ((and_parts (nat_lt x n) (all_below n (xs ++ ys)) e).1)
 
 below_one : (n x : ℕ) → all_below n (x ∷ []) ≡ true → x < n
-below_one n x e = let f : nat_lt x n ≡ true = first_true (nat_lt x n) (all_below n []) e in grind (arith, nat_tests, f)
-
-same_number : (x v : ℕ) → Some x ≡ Some v → x ≡ v
-same_number x v e = cc
-
-no_number : (v : ℕ) → None ≡ Some v → ⊥
-no_number v e = cc
+below_one n x e = let f : nat_lt x n ≡ true = (and_parts (nat_lt x n) (all_below n []) e).0 in grind (arith, nat_tests, f)
 
 pub input_is : (o : Option Node) (v : ℕ) → node_variable o ≡ Some v → (x : Var) × (o ≡ Some (Input x)) × (x.0 ≡ v)
-input_is None v e = absurd (no_number v e)
-input_is (Some Constant) v e = absurd (no_number v e)
-input_is (Some (Gate l r)) v e = absurd (no_number v e)
-input_is (Some (Input x)) v e = (x, refl, same_number x.0 v e)
-
-pub is_some_of : (o : Option Node) (n : Node) → o ≡ Some n → is_some o ≡ true
-is_some_of o n e = rw e refl
+input_is None v e = absurd (none-some v e)
+input_is (Some Constant) v e = absurd (none-some v e)
+input_is (Some (Gate l r)) v e = absurd (none-some v e)
+input_is (Some (Input x)) v e = (x, refl, same_Some x.0 v e)
 
 -- the cones of needed nodes are below what bounds the cones of the edges
 needed_below : ConesFromOperands → (nodes : List Node) (edges : List Edge) (table : List (Option Node)) (n k : ℕ) → IsAig nodes → AreNeeded nodes edges table → All (λ e. all_below n (cone nodes e) ≡ true) edges → is_some (at table k) ≡ true → k < length nodes → all_below n (cone nodes (plain_edge k)) ≡ true
@@ -89,6 +72,6 @@ AreNamed-needed from_operands nodes names outputs table arena h roots k v e =
     (λ j d inside.
     let l : j < length outputs = omega (arith, length-map outputs (λ o. o.1)) in
     below_from (length names) (cone nodes (get_or (edges_of outputs) j d)) (bounded_at nodes names outputs roots j d l)) in
-    let below : all_below (length names) (cone nodes (plain_edge k)) ≡ true = needed_below from_operands nodes (edges_of outputs) table (length names) k arena h all (is_some_of (at table k) (Input x.0) x.1) within in
+    let below : all_below (length names) (cone nodes (plain_edge k)) ≡ true = needed_below from_operands nodes (edges_of outputs) table (length names) k arena h all (is_some_at (at table k) (Input x.0) x.1) within in
     let c : cone nodes (plain_edge k) ≡ x.0.0 ∷ [] = from_operands nodes k (Input x.0) arena there in
     omega (arith, x.2, below_one (length names) x.0.0 (rw c at below))

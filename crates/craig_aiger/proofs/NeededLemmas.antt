@@ -72,7 +72,8 @@ RootedTo-first nodes edges table lengths none = record {
   needed = λ k h. absurd (none_is_some (at table k) (none k) h);
 }
 
-before_or_at : (j i : ℕ) → j < i + 1 → (j ≡ i) ⊎ (j < i)
+-- before the next place is at this one or before it
+pub before_or_at : (j i : ℕ) → j < i + 1 → (j ≡ i) ⊎ (j < i)
 before_or_at j i h = elim (dec_lt j i) [ Prim.yes lt ↦ inr lt | Prim.no not_below ↦ inl (let not_lt : j < i → ⊥ = not_below in omega arith) ]
 
 pub RootedTo-more : (nodes : List Node) (edges : List Edge) (old new : List (Option Node)) (i next : ℕ) (e : Edge) → next ≡ i + 1 → RootedTo nodes edges old i → i < length edges → ((d : Edge) → get_or edges i d ≡ e) → e.place < length nodes → length new ≡ length old → IsKept nodes old new e.place → RootedTo nodes edges new next
@@ -167,7 +168,8 @@ left_is o l r l' r' e f = cc
 right_is : (o : Option Node) (l r l' r' : Edge) → o ≡ Some (Gate l r) → o ≡ Some (Gate l' r') → r' ≡ r
 right_is o l r l' r' e f = cc
 
-is_some_at : (o : Option Node) (n : Node) → o ≡ Some n → is_some o ≡ true
+-- what is there
+pub is_some_at : (o : Option Node) (n : Node) → o ≡ Some n → is_some o ≡ true
 is_some_at o n e = rw e refl
 
 -- both operands of the gate at the place below are kept

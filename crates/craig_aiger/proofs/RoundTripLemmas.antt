@@ -29,7 +29,7 @@ use Rattle.craig_aiger.proofs.CircuitMovedLemmas.{cone_moved, value_moved}
 use Rattle.craig_aiger.proofs.TextSectionLemmas.{bytes_of, counts, literals_of, operands_of}
 use Rattle.craig_aiger.proofs.TextSymbolLemmas.{input_name, layout_symbols, output_name}
 use Rattle.craig_aiger.proofs.TextWordLemmas.{bytes-lines_of, five_numbers, variable_in-decimal}
-use Rattle.craig_aiger.proofs.TableLemmas.{map_at}
+use Rattle.craig_spec.proofs.MemberLemmas.{slice_get-to_map}
 use Rattle.craig_aiger.proofs.WritableLemmas.{mapped}
 use Rattle.craig_aiger.proofs.TextWrittenLemmas.{Said, said, written_of}
 
@@ -163,7 +163,7 @@ module _ (l : Layout) (h : IsWritable l) where
         (each_then (λ (o : OutName × ℕ). o.1 / 2 < first + length l.gates) (λ (o : OutName × ℕ). circuit_cone circuit (moved first order o.1) ≡ circuit_cone (circuit_of l) o.1) l.outputs
         (λ o b. cone_moved first gates order in_order is_order ([] ∷ map (λ (x : ℕ). x ∷ []) l.inputs) o.1 (omega (arith, length-map l.inputs (λ (x : ℕ). x ∷ []))) (omega (arith, b, gate_count))) literals_within);
     constants = λ j o at_j small.
-        (to_output (moved first order) o, map_at (to_output (moved first order)) l.outputs j o at_j, moved_constant first order o.1 (omega (arith, small)));
+        (to_output (moved first order) o, slice_get-to_map (to_output (moved first order)) l.outputs j o at_j, moved_constant first order o.1 (omega (arith, small)));
   }
 
   abbrev symbols : List Symbol

@@ -1,5 +1,7 @@
 -- The circuit of a layout has nothing twice, and each input and gate is reached from an output.
 use Rattle.std.proofs.Common.{◌≡◌, ◌≢◌, ◌⊎◌, inl, inr, ℕ, suc, ◌+◌, ◌-◌, ◌*◌, ◌<◌, ◌≤◌, ◌/◌, Bool, true, false, ◌&&◌, cond, nat_lt, eqb, List, [], ◌∷◌, ◌++◌, length, get_or, take, drop, map, Some, None, All, AllPairs, slice_get, refl, sym, ap, ◌∙◌, subst, arith}
+use Rattle.std.proofs.lemmas.Option.{same_Some}
+use Rattle.std.proofs.lemmas.Bool.{and_from, and_parts}
 use native.Mathlib.Decide.{dec_lt}
 use Rattle.std.specs.Option.{is_some}
 use Rattle.std.specs.List.{filter_map, IsDistinct}
@@ -18,12 +20,12 @@ use Rattle.craig_base.specs.declared.variable.Var.{Var}
 use Rattle.craig_aiger.specs.declared.out_name.OutName.{OutName}
 use Rattle.craig_aiger.specs.Layouts.{Layout, circuit_of, at, edges_of, node_operands, gate_literals, node_variable, ordered, edge_literal, HasOperandNodes, IsLayout, IsNumber}
 use Rattle.craig_aiger.specs.OutNames.{name_text}
-use Rattle.craig_aiger.proofs.NamedLemmas.{input_is, is_some_of}
-use Rattle.craig_aiger.proofs.NeededLemmas.{gate_read, operands_at}
-use Rattle.craig_aiger.proofs.TableLemmas.{map_at}
+use Rattle.craig_aiger.proofs.NamedLemmas.{input_is}
+use Rattle.craig_aiger.proofs.NeededLemmas.{gate_read, operands_at, is_some_at}
+use Rattle.craig_spec.proofs.MemberLemmas.{slice_get-to_map}
 use Rattle.craig_aiger.proofs.CircuitLemmas.{gate_counts, gates_around, some_node}
 use Rattle.craig_aiger.proofs.FunctionLemmas.{half, kept, output_needed, to_circuit}
-use Rattle.craig_aiger.proofs.UsedLemmas.{Given, both_parts, given, member_of_map}
+use Rattle.craig_aiger.proofs.UsedLemmas.{Given, given, member_of_map}
 use Rattle.craig_aiger.proofs.WritableLemmas.{From, from, mapped, operands_bound}
 
 -- where no two are the same, equal ones stand at one place
@@ -81,12 +83,6 @@ either_order : (P : ℕ → Type 0) (a b : ℕ) (t : Bool) → nat_lt a b ≡ t 
 either_order P a b true e both = let pair : P b × P a = rw e at both in (pair.1, pair.0)
 either_order P a b false e both = rw e at both
 
-both_of : (a b : Bool) → a ≡ true → b ≡ true → (a && b) ≡ true
-both_of a b e f = rw (e, f) refl
-
-one_some : {X : Type 0} (x y : X) → Some x ≡ Some y → x ≡ y
-one_some x y e = cc
-
 slice_get_after : {X : Type 0} (front : List X) (x : X) (back : List X) → slice_get (front ++ x ∷ back) (length front) ≡ Some x
 slice_get_after [] x back = refl
 slice_get_after (y ∷ front) x back = slice_get_after front x back
@@ -96,7 +92,7 @@ output_has : (P : ℕ → Type 0) (laid : List (OutName × ℕ)) (j : ℕ) (o : 
 output_has P laid j o is roots =
     let d : circuit.Output = record { name = []; literal = 0 } in
     let outs : List circuit.Output = map (λ (x : OutName × ℕ). record { name = name_text x.0; literal = x.1 }) laid in
-    let there : slice_get outs j ≡ Some (record { name = name_text o.0; literal = o.1 }) = map_at (λ (x : OutName × ℕ). record { name = name_text x.0; literal = x.1 }) laid j o is in
+    let there : slice_get outs j ≡ Some (record { name = name_text o.0; literal = o.1 }) = slice_get-to_map (λ (x : OutName × ℕ). record { name = name_text x.0; literal = x.1 }) laid j o is in
     subst (λ (x : circuit.Output). P x.literal) (get_or_from_slice_get outs j (record { name = name_text o.0; literal = o.1 }) d there) (roots j d (slice_get_within outs j (record { name = name_text o.0; literal = o.1 }) there))
 
 module _ (nodes : List Node) (names : List ℕ) (outputs : List (OutName × Edge)) (layout : Layout) (arena : IsAig nodes) (h : IsLayout nodes names outputs layout) where
@@ -261,8 +257,8 @@ module _ (nodes : List Node) (names : List ℕ) (outputs : List (OutName × Edge
       let back : List (Edge × Edge) = filter_map node_operands (drop (suc k) h.table) in
       let there : slice_get (front ++ (l, r) ∷ back) (length front) ≡ Some (l, r) = slice_get_after front (l, r) back in
       let here : slice_get (filter_map node_operands h.table) (length front) ≡ Some (l, r) = ap (λ ps. slice_get ps (length front)) (gates_around h.table k l r (within_table k (Gate l r) is) is) ∙ there in
-      let gate_here : slice_get layout.gates (length front) ≡ Some (gate_literals h.numbers (l, r)) = ap (λ gs. slice_get gs (length front)) h.gates_are ∙ map_at (gate_literals h.numbers) (filter_map node_operands h.table) (length front) (l, r) here in
-      map_at to_circuit layout.gates (length front) (gate_literals h.numbers (l, r)) gate_here
+      let gate_here : slice_get layout.gates (length front) ≡ Some (gate_literals h.numbers (l, r)) = ap (λ gs. slice_get gs (length front)) h.gates_are ∙ slice_get-to_map (gate_literals h.numbers) (filter_map node_operands h.table) (length front) (l, r) here in
+      slice_get-to_map to_circuit layout.gates (length front) (gate_literals h.numbers (l, r)) gate_here
 
   module _ (within : All (λ p. p.1.place < length nodes) outputs) where
     module _ (has : ℕ → Bool) (roots : All (λ o. has (o.literal / 2) ≡ true) (circuit_of layout).outputs) (closed : circuit.HasOperands (circuit_of layout) has) where
@@ -273,9 +269,9 @@ module _ (nodes : List Node) (names : List ℕ) (outputs : List (OutName × Edge
       root_kept : (j : ℕ) (o : OutName × Edge) → slice_get outputs j ≡ Some o → kept_in o.1.place ≡ true
       root_kept j o is =
           let n = output_needed nodes names outputs layout arena h j o within is in
-          let laid : slice_get layout.outputs j ≡ Some (o.0, edge_literal h.numbers o.1) = ap (λ ls. slice_get ls j) h.outputs_are ∙ map_at (λ (p : OutName × Edge). (p.0, edge_literal h.numbers p.1)) outputs j o is in
+          let laid : slice_get layout.outputs j ≡ Some (o.0, edge_literal h.numbers o.1) = ap (λ ls. slice_get ls j) h.outputs_are ∙ slice_get-to_map (λ (p : OutName × Edge). (p.0, edge_literal h.numbers p.1)) outputs j o is in
           let root : has (edge_literal h.numbers o.1 / 2) ≡ true = output_has (λ (l : ℕ). has (l / 2) ≡ true) layout.outputs j (o.0, edge_literal h.numbers o.1) laid roots in
-          both_of (is_some (at h.table o.1.place)) (has (get_or h.numbers o.1.place 0)) n.1 (subst (λ v. has v ≡ true) (half (get_or h.numbers o.1.place 0) o.1.negated) root)
+          and_from (is_some (at h.table o.1.place)) (has (get_or h.numbers o.1.place 0)) n.1 (subst (λ v. has v ≡ true) (half (get_or h.numbers o.1.place 0) o.1.negated) root)
 
       roots_kept : All (λ (e : Edge). kept_in e.place ≡ true) (edges_of outputs)
       roots_kept j d inside =
@@ -286,23 +282,23 @@ module _ (nodes : List Node) (names : List ℕ) (outputs : List (OutName × Edge
 
       closed_kept : HasOperandNodes nodes kept_in
       closed_kept k l r is both =
-          let parts = both_parts (is_some (at h.table k)) (has (get_or h.numbers k 0)) both in
+          let parts = and_parts (is_some (at h.table k)) (has (get_or h.numbers k 0)) both in
           let n = some_node (at h.table k) parts.0 in
-          let node : n.0 ≡ Gate l r = one_some n.0 (Gate l r) (sym (h.needed.nodes_are k n.0 n.1) ∙ is) in
+          let node : n.0 ≡ Gate l r = same_Some n.0 (Gate l r) (sym (h.needed.nodes_are k n.0 n.1) ∙ is) in
           let there : at h.table k ≡ Some (Gate l r) = n.1 ∙ ap (λ m. Some m) node in
           let below = kept nodes names outputs layout arena h k l r there in
           let count : ℕ = length (filter_map node_operands (take k h.table)) in
           let own : get_or h.numbers k 0 ≡ 1 + length layout.inputs + count = own_number k (Gate l r) there in
           let operands = closed count (to_circuit (gate_literals h.numbers (l, r))) (laid_gate k l r there) (subst (λ v. has v ≡ true) own parts.1) in
           let halves = either_order (λ v. has (v / 2) ≡ true) (edge_literal h.numbers l) (edge_literal h.numbers r) (nat_lt (edge_literal h.numbers l) (edge_literal h.numbers r)) refl operands in (
-            both_of (is_some (at h.table l.place)) (has (get_or h.numbers l.place 0)) below.2 (subst (λ v. has v ≡ true) (half (get_or h.numbers l.place 0) l.negated) halves.0),
-            both_of (is_some (at h.table r.place)) (has (get_or h.numbers r.place 0)) below.3 (subst (λ v. has v ≡ true) (half (get_or h.numbers r.place 0) r.negated) halves.1),
+            and_from (is_some (at h.table l.place)) (has (get_or h.numbers l.place 0)) below.2 (subst (λ v. has v ≡ true) (half (get_or h.numbers l.place 0) l.negated) halves.0),
+            and_from (is_some (at h.table r.place)) (has (get_or h.numbers r.place 0)) below.3 (subst (λ v. has v ≡ true) (half (get_or h.numbers r.place 0) r.negated) halves.1),
           )
 
       node_had : (k : ℕ) (n : Node) → at h.table k ≡ Some n → has (get_or h.numbers k 0) ≡ true
       node_had k n is =
           let inside : k < length nodes = slice_get_within nodes k n (h.needed.nodes_are k n is) in
-          (both_parts (is_some (at h.table k)) (has (get_or h.numbers k 0)) ((h.needed.needed k inside).0 (is_some_of (at h.table k) n is) kept_in roots_kept closed_kept)).1
+          (and_parts (is_some (at h.table k)) (has (get_or h.numbers k 0)) ((h.needed.needed k inside).0 (is_some_at (at h.table k) n is) kept_in roots_kept closed_kept)).1
 
     node_reached : (k v : ℕ) (n : Node) → at h.table k ≡ Some n → get_or h.numbers k 0 ≡ v → circuit.IsReached (circuit_of layout) v
     node_reached k v n is own has roots closed = subst (λ x. has x ≡ true) own (node_had has roots closed k n is)

@@ -1,5 +1,8 @@
 -- What the nodes of a table give, one after another.
 use Rattle.std.proofs.Common.{◌≡◌, ◌⊎◌, inl, inr, ℕ, zero, suc, ◌+◌, ◌<◌, ◌≤◌, List, [], ◌∷◌, ◌++◌, length, get_or, take, map, Option, Some, None, All, Contains, slice_get, refl, sym, ap, ◌∙◌, subst, arith, length-append}
+use Rattle.craig_aiger.proofs.NeededLemmas.{before_or_at}
+use Rattle.std.proofs.lemmas.Option.{none-some, same_Some}
+use Rattle.std.proofs.lemmas.List.{append-nil}
 use Rattle.std.specs.List.{filter_map, cons_option}
 use Rattle.std.specs.Option.{option_map}
 use Rattle.std.specs.List.Sorted.{IsStrictlyIncreasing, IsPermutation, IsSorted}
@@ -28,13 +31,9 @@ filter_map-more h xs i x within = ap (filter_map h) (take_more xs i x within) �
 pub filter_map-some : {X Y : Type 0} (h : X → Option Y) (xs : List X) (i : ℕ) (x : X) (y : Y) → i < length xs → h (get_or xs i x) ≡ Some y → filter_map h (take (i + 1) xs) ≡ filter_map h (take i xs) ++ y ∷ []
 filter_map-some h xs i x y within e = filter_map-more h xs i x within ∙ ap (λ o. filter_map h (take i xs) ++ cons_option o []) e
 
-append_nil : {Y : Type 0} (ys : List Y) → ys ++ [] ≡ ys
-append_nil [] = refl
-append_nil (y ∷ ys) = ap (λ l. y ∷ l) (append_nil ys)
-
 -- one more that gives nothing
 pub filter_map-none : {X Y : Type 0} (h : X → Option Y) (xs : List X) (i : ℕ) (x : X) → i < length xs → h (get_or xs i x) ≡ None → filter_map h (take (i + 1) xs) ≡ filter_map h (take i xs)
-filter_map-none h xs i x within e = filter_map-more h xs i x within ∙ ap (λ o. filter_map h (take i xs) ++ cons_option o []) e ∙ append_nil (filter_map h (take i xs))
+filter_map-none h xs i x within e = filter_map-more h xs i x within ∙ ap (λ o. filter_map h (take i xs) ++ cons_option o []) e ∙ append-nil (filter_map h (take i xs))
 
 -- an input that is read from the table
 pub named_at : (names : List ℕ) (table : List (Option Node)) (k : ℕ) (x : Option Node) (v : ℕ) → AreNamed names table → k < length table → node_variable (get_or table k x) ≡ Some v → v < length names
@@ -73,42 +72,33 @@ module _ (old sorted new : List ℕ) (permutation : IsPermutation old sorted) (o
   pub dedup_from : (x : ℕ) → Contains new x → Contains old x
   dedup_from x h = Contains-permutation sorted old x (IsPermutation-sym old sorted permutation) (Contains-from_dedup eqb sorted x (subst (λ l. Contains l x) (dedup_is eqb sorted new filtered) h))
 
-same_option : (x v : ℕ) → Some x ≡ Some v → x ≡ v
-same_option x v e = cc
-
-none_some : {A : Type 0} (x : A) → None ≡ Some x → ⊥
-none_some x e = cc
-
 -- the numbers of the three kinds of nodes
 pub numbered_input : (names inputs : List ℕ) (before : List (Option Node)) (n : Option Node) (v m name : ℕ) → node_variable n ≡ Some v → slice_get names v ≡ Some name → v < length names →
     ((i : ℕ) × (m ≡ 1 + i) × (slice_get inputs i ≡ Some name)) → IsNumber names inputs before n m
-numbered_input names inputs before None v m name e at within place = absurd (none_some v e)
-numbered_input names inputs before (Some Constant) v m name e at within place = absurd (none_some v e)
-numbered_input names inputs before (Some (Gate l r)) v m name e at within place = absurd (none_some v e)
+numbered_input names inputs before None v m name e at within place = absurd (none-some v e)
+numbered_input names inputs before (Some Constant) v m name e at within place = absurd (none-some v e)
+numbered_input names inputs before (Some (Gate l r)) v m name e at within place = absurd (none-some v e)
 numbered_input names inputs before (Some (Input x)) v m name e at within place =
-    let same : x.0 ≡ v = same_option x.0 v e in
+    let same : x.0 ≡ v = same_Some x.0 v e in
     let named : get_or names v 0 ≡ name = get_or_from_slice_get names v name 0 at in
     (place.0, place.1, place.2 ∙ ap Some (sym (ap (λ k. get_or names k 0) same ∙ named)), omega (arith, same, within))
 
 pub numbered_gate : (names inputs : List ℕ) (before : List (Option Node)) (n : Option Node) (p : Edge × Edge) (m : ℕ) → node_operands n ≡ Some p → m ≡ 1 + length inputs + length (filter_map node_operands before) → IsNumber names inputs before n m
-numbered_gate names inputs before None p m e is = absurd (none_some p e)
-numbered_gate names inputs before (Some Constant) p m e is = absurd (none_some p e)
-numbered_gate names inputs before (Some (Input x)) p m e is = absurd (none_some p e)
+numbered_gate names inputs before None p m e is = absurd (none-some p e)
+numbered_gate names inputs before (Some Constant) p m e is = absurd (none-some p e)
+numbered_gate names inputs before (Some (Input x)) p m e is = absurd (none-some p e)
 numbered_gate names inputs before (Some (Gate l r)) p m e is = is
 
 pub numbered_other : (names inputs : List ℕ) (before : List (Option Node)) (n : Option Node) → node_variable n ≡ None → node_operands n ≡ None → IsNumber names inputs before n 0
 numbered_other names inputs before None e f = tt
 numbered_other names inputs before (Some Constant) e f = refl
-numbered_other names inputs before (Some (Input x)) e f = absurd (none_some x.0 (sym e))
-numbered_other names inputs before (Some (Gate l r)) e f = absurd (none_some (l, r) (sym f))
+numbered_other names inputs before (Some (Input x)) e f = absurd (none-some x.0 (sym e))
+numbered_other names inputs before (Some (Gate l r)) e f = absurd (none-some (l, r) (sym f))
 
 -- the first nodes of the table have their numbers
 pub record Numbered (names inputs : List ℕ) (table : List (Option Node)) (numbers : List ℕ) (i : ℕ) : Type 0 where
   pub lengths : length numbers ≡ i
   pub each : (k : ℕ) → k < i → IsNumber names inputs (take k table) (at table k) (get_or numbers k 0)
-
-before_or_at : (j i : ℕ) → j < i + 1 → (j ≡ i) ⊎ (j < i)
-before_or_at j i h = elim (dec_lt j i) [ Prim.yes lt ↦ inr lt | Prim.no not_below ↦ inl (let not_lt : j < i → ⊥ = not_below in omega arith) ]
 
 pub Numbered-more : (names inputs : List ℕ) (table : List (Option Node)) (numbers new : List ℕ) (i m : ℕ) (x : Option Node) → x ≡ get_or table i x → i < length table → Numbered names inputs table numbers i → IsNumber names inputs (take i table) x m → new ≡ numbers ++ m ∷ [] → Numbered names inputs table new (i + 1)
 Numbered-more names inputs table numbers new i m x read within h number is = record {
@@ -154,8 +144,8 @@ one_node x = one_gate (node_operands x)
 
 -- what the table has at a place is among what it has
 contains_here : (o : Option ℕ) (rest : List ℕ) (v : ℕ) → o ≡ Some v → Contains (cons_option o rest) v
-contains_here None rest v e = absurd (none_some v e)
-contains_here (Some x) rest v e = (0, omega arith, same_option x v e)
+contains_here None rest v e = absurd (none-some v e)
+contains_here (Some x) rest v e = (0, omega arith, same_Some x v e)
 
 contains_later : (o : Option ℕ) (rest : List ℕ) (v : ℕ) → Contains rest v → Contains (cons_option o rest) v
 contains_later None rest v h = h
@@ -201,9 +191,3 @@ pub All-from_members : (P : ℕ → Type 0) (xs ys : List ℕ) → ((x : ℕ) �
 All-from_members P xs ys among h k d within =
     let m = among (get_or ys k d) (k, within, get_or_default ys k (get_or ys k d) d within) in
     subst P m.2 (h m.0 (get_or ys k d) m.1)
-
--- an element of a mapped list
-pub map_at : {A B : Type 0} (f : A → B) (xs : List A) (j : ℕ) (x : A) → slice_get xs j ≡ Some x → slice_get (map f xs) j ≡ Some (f x)
-map_at {A} f [] j x e = absurd (let within : j < length {A = A} [] = slice_get_within [] j x e in omega (arith, within))
-map_at f (y ∷ xs) zero x e = ap (λ o. option_map f o) e
-map_at f (y ∷ xs) (suc j) x e = map_at f xs j x e

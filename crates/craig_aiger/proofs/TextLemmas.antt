@@ -1,14 +1,11 @@
 -- The lines of a text, one after another.
 use Rattle.std.proofs.Common.{◌≡◌, length-append, ℕ, zero, suc, ◌+◌, ◌*◌, ◌<◌, ◌≤◌, List, [], ◌∷◌, ◌++◌, length, get_or, take, refl, sym, ap, ◌∙◌, append_assoc, arith}
+use Rattle.std.proofs.lemmas.List.{append-nil}
 use Rattle.std.proofs.lemmas.List.{take_more, length-take-le}
 use Rattle.craig_aiger.specs.AsciiText.{numbered_lines}
 
-append_nil : {Y : Type 0} (ys : List Y) → ys ++ [] ≡ ys
-append_nil [] = refl
-append_nil (y ∷ ys) = ap (λ l. y ∷ l) (append_nil ys)
-
 numbered_push : {X : Type 0} (line : ℕ → X → List ℕ) (n : ℕ) (xs : List X) (x : X) → numbered_lines line n (xs ++ x ∷ []) ≡ numbered_lines line n xs ++ line (n + length xs) x
-numbered_push line n [] x = append_nil (line n x) ∙ ap (λ k. line k x) (let e : n ≡ n + 0 = omega arith in e)
+numbered_push line n [] x = append-nil (line n x) ∙ ap (λ k. line k x) (let e : n ≡ n + 0 = omega arith in e)
 numbered_push line n (y ∷ xs) x =
     let e : (n + 1) + length xs ≡ n + suc (length xs) = omega arith in
     ap (λ l. line n y ++ l) (numbered_push line (n + 1) xs x ∙ ap (λ k. numbered_lines line (n + 1) xs ++ line k x) e)

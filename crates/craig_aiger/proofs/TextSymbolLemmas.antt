@@ -1,5 +1,7 @@
 -- The symbols of a text are read as they were written, and name what they are written for.
 use Rattle.std.proofs.Common.{◌≡◌, ℕ, zero, suc, ◌+◌, ◌^◌, ◌<◌, ◌≤◌, Bool, true, false, not, ◌&&◌, ◌||◌, eqb, eq-eqb, nat_lt, List, [], ◌∷◌, ◌++◌, length, get_or, take, Some, Result, Ok, Err, slice_get, refl, sym, ap, ◌∙◌, append_assoc, length-append, arith}
+use Rattle.std.proofs.Math.Bool.{and-false, or-true}
+use Rattle.std.proofs.lemmas.Bool.{and_from}
 use Rattle.std.specs.Fmt.{decimal}
 use Rattle.std.specs.List.{find, list_all, list_any, prefix_len, take_while}
 use Rattle.std.specs.Option.{option_map, option_or}
@@ -44,26 +46,18 @@ other_letter other letter position name n zero xs e = refl
 other_letter other letter position name n (suc k) [] e = refl
 other_letter other letter position name n (suc k) (x ∷ xs) e = rw e (other_letter other letter position name (n + 1) k xs e)
 
-and_false : (b : Bool) → (b && false) ≡ false
-and_false true = refl
-and_false false = refl
-
 earlier : {X : Type 0} (letter position : ℕ) (name : X → List ℕ) (n k : ℕ) (xs : List X) → n + k ≤ position → list_any (is_symbol_of letter position) (take k (symbols_from letter name n xs)) ≡ false
 earlier letter position name n zero xs h = refl
 earlier letter position name n (suc k) [] h = refl
 earlier letter position name n (suc k) (x ∷ xs) h =
     let e : eqb n position ≡ false = grind (arith, nat_tests) in
-    rw (e, and_false (eqb letter letter)) (earlier letter position name (n + 1) k xs (omega arith))
-
-or_true : (b : Bool) → (b || true) ≡ true
-or_true true = refl
-or_true false = refl
+    rw (e, and-false (eqb letter letter)) (earlier letter position name (n + 1) k xs (omega arith))
 
 -- the bytes of a symbol
 symbol_bytes : (letter n : ℕ) (name : List ℕ) → n < 10 ^ 18 → symbol_of (letter ∷ (decimal n ++ 32 ∷ name)) ≡ Some (record { letter = letter; position = n; name = name })
 symbol_bytes letter n name h =
     let plain : list_any (λ b. eqb b 32) (decimal n) ≡ false = lacks-decimal 32 n refl (omega arith) in
-    let some : list_any (λ b. eqb b 32) (decimal n ++ 32 ∷ name) ≡ true = list_any-append (λ b. eqb b 32) (decimal n) (32 ∷ name) ∙ or_true (list_any (λ b. eqb b 32) (decimal n)) in
+    let some : list_any (λ b. eqb b 32) (decimal n ++ 32 ∷ name) ≡ true = list_any-append (λ b. eqb b 32) (decimal n) (32 ∷ name) ∙ or-true (list_any (λ b. eqb b 32) (decimal n)) in
     rw (some, before_byte 32 (decimal n) name plain refl, after_byte 32 (decimal n) name plain refl, number_in-decimal n h) refl
 
 symbol_read : (c : Counts) (before : List Symbol) (line : TextLine) (letter n : ℕ) (name : List ℕ) → line.bytes ≡ letter ∷ (decimal n ++ 32 ∷ name) → n < 10 ^ 18 → nat_lt n (count_named c letter) ≡ true → list_any (is_symbol_of letter n) before ≡ false → symbol_in c before line ≡ Ok (record { letter = letter; position = n; name = name })
@@ -186,20 +180,17 @@ module _ (c : Counts) (end : ℕ) (inputs : List ℕ) (outputs : List (OutName �
       ∙ ap (λ n. n + length (each_line output_name_bytes 0 outputs)) (length-each_line input_name_bytes 0 inputs) ∙ ap (λ n. length inputs + n) (length-each_line output_name_bytes 0 outputs) in
       (second.after, ap (λ n. read_lines (symbol_in c) end n [] lines) count ∙ read_both (symbol_in c) end (length inputs) (length outputs) [] first.all lines first.after (Ok (second.all, second.after)) first.read second.read ∙ ap (λ l. Ok (l, second.after)) outputs_done)
 
-both : (a b : Bool) → a ≡ true → b ≡ true → (a && b) ≡ true
-both a b e f = rw (e, f) refl
-
 -- the symbol of a thing is found
 find_by : {X : Type 0} (letter : ℕ) (name : X → List ℕ) (n i m : ℕ) (xs : List X) (x : X) → slice_get xs i ≡ Some x → n + i ≡ m → find (is_symbol_of letter m) (symbols_from letter name n xs) ≡ Some (record { letter = letter; position = m; name = name x })
 find_by letter name n i m [] x e is = absurd cc
 find_by letter name n zero m (y ∷ xs) x e is =
     let same : y ≡ x = cc in
     let k : n ≡ m = omega arith in
-    let t : (eqb letter letter && eqb n m) ≡ true = both (eqb letter letter) (eqb n m) (eq-eqb letter letter refl) (eq-eqb n m k) in
+    let t : (eqb letter letter && eqb n m) ≡ true = and_from (eqb letter letter) (eqb n m) (eq-eqb letter letter refl) (eq-eqb n m k) in
     rw t (ap (λ z. Some (record { letter = letter; position = n; name = name z })) same ∙ ap (λ j. Some (record { letter = letter; position = j; name = name x })) k)
 find_by letter name n (suc i) m (y ∷ xs) x e is =
     let f : eqb n m ≡ false = grind (arith, nat_tests, is) in
-    rw (f, and_false (eqb letter letter)) (find_by letter name (n + 1) i m xs x e (omega arith))
+    rw (f, and-false (eqb letter letter)) (find_by letter name (n + 1) i m xs x e (omega arith))
 
 find_other : {X : Type 0} (other letter m : ℕ) (name : X → List ℕ) (n : ℕ) (xs : List X) (more : List Symbol) → eqb other letter ≡ false → find (is_symbol_of letter m) (symbols_from other name n xs ++ more) ≡ find (is_symbol_of letter m) more
 find_other other letter m name n [] more e = refl

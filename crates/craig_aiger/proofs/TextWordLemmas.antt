@@ -1,5 +1,6 @@
 -- Words, numbers and lines of a text that are read as they were written.
 use Rattle.std.proofs.Common.{◌≡◌, ℕ, zero, suc, ◌+◌, ◌^◌, ◌<◌, ◌≤◌, Bool, true, false, ◌&&◌, ◌||◌, eqb, eqb-true, List, [], ◌∷◌, ◌++◌, length, get_or, drop, map, All, Some, nat_le, refl, sym, ap, ◌∙◌, append_assoc, arith}
+use Rattle.std.proofs.lemmas.Bool.{and_parts}
 use Rattle.std.specs.Char.{is_ascii_digit}
 use Rattle.std.specs.Fmt.{decimal}
 use Rattle.std.specs.List.{list_all, list_any, slice_split, position_or_len, before_first, after_first}
@@ -42,19 +43,11 @@ no_digit : (b c : ℕ) → is_ascii_digit c ≡ true → is_ascii_digit b ≡ fa
 no_digit b c d n true e = let same : c ≡ b = eqb-true c b e in let f : true ≡ false = sym d ∙ ap is_ascii_digit same ∙ n in f
 no_digit b c d n false e = refl
 
-head_true : (a b : Bool) → (a && b) ≡ true → a ≡ true
-head_true true b e = refl
-head_true false b e = e
-
-tail_true : (a b : Bool) → (a && b) ≡ true → b ≡ true
-tail_true true b e = e
-tail_true false b e = absurd cc
-
 lacks-digits : (b : ℕ) (ds : List ℕ) → is_ascii_digit b ≡ false → list_all is_ascii_digit ds ≡ true → Lacks b ds
 lacks-digits b [] n all = refl
 lacks-digits b (d ∷ ds) n all =
-    let here : eqb d b ≡ false = no_digit b d (head_true (is_ascii_digit d) (list_all is_ascii_digit ds) all) n (eqb d b) refl in
-    rw here (lacks-digits b ds n (tail_true (is_ascii_digit d) (list_all is_ascii_digit ds) all))
+    let here : eqb d b ≡ false = no_digit b d ((and_parts (is_ascii_digit d) (list_all is_ascii_digit ds) all).0) n (eqb d b) refl in
+    rw here (lacks-digits b ds n ((and_parts (is_ascii_digit d) (list_all is_ascii_digit ds) all).1))
 
 pub lacks-decimal : (b n : ℕ) → is_ascii_digit b ≡ false → n < 2 ^ 64 → Lacks b (decimal n)
 lacks-decimal b n not_digit h = lacks-digits b (decimal n) not_digit (digits-decimal n h)

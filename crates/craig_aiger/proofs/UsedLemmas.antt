@@ -1,5 +1,7 @@
 -- Each input of a layout is in the cone of an output.
 use Rattle.std.proofs.Common.{◌≡◌, ℕ, zero, suc, ◌<◌, Bool, true, false, ◌&&◌, eqb, eqb-true, eq-eqb, List, [], ◌∷◌, ◌++◌, length, get_or, map, Contains, Option, Some, None, slice_get, refl, sym, ap, ◌∙◌, subst, arith}
+use Rattle.craig_spec.proofs.MemberLemmas.{Contains-image}
+use Rattle.std.proofs.lemmas.Bool.{and_parts}
 use Rattle.std.specs.List.{cons_option, filter_map, list_all, list_any}
 use Rattle.std.specs.Option.{is_some}
 use Rattle.std.proofs.Math.ListN.{get_or-map}
@@ -16,16 +18,13 @@ use Rattle.craig_aig.specs.declared.node.Node.TheVariants.{Input, Gate}
 use Rattle.craig_base.specs.declared.variable.Var.{Var}
 use Rattle.craig_aiger.specs.declared.out_name.OutName.{OutName}
 use Rattle.craig_aiger.specs.Layouts.{AreNeeded, IsLayout, Layout, at, circuit_of, edges_of, node_variable, edge_literal}
-use Rattle.craig_aiger.proofs.NamedLemmas.{input_is, is_some_of}
-use Rattle.craig_aiger.proofs.TableLemmas.{map_at}
+use Rattle.craig_aiger.proofs.NeededLemmas.{is_some_at}
+use Rattle.craig_aiger.proofs.NamedLemmas.{input_is}
+use Rattle.craig_spec.proofs.MemberLemmas.{slice_get-to_map}
 
 -- whether the variable is in the cone of one of the edges
 abbrev reached : List Node → List Edge → ℕ → Bool
 reached nodes edges x = list_any (λ e. list_any (eqb x) (cone nodes e)) edges
-
-pub both_parts : (a b : Bool) → (a && b) ≡ true → (a ≡ true) × (b ≡ true)
-both_parts true b e = (refl, e)
-both_parts false b e = absurd cc
 
 all_where : (p : ℕ → Bool) (xs : List ℕ) → ((x : ℕ) → Contains xs x → p x ≡ true) → list_all p xs ≡ true
 all_where p [] h = refl
@@ -43,7 +42,7 @@ needed_reached from_operands nodes edges table k arena h some within =
     (h.needed k within).0 some (λ p. list_all (reached nodes edges) (cone nodes (plain_edge p))) (λ j d inside. edge_reached nodes edges j d inside)
     (λ p l r is all.
     let e : cone nodes (plain_edge p) ≡ cone nodes l ++ cone nodes r = from_operands nodes p (Gate l r) arena is in
-    both_parts (list_all (reached nodes edges) (cone nodes l)) (list_all (reached nodes edges) (cone nodes r)) (sym (list_all-append (reached nodes edges) (cone nodes l) (cone nodes r)) ∙ (rw e at all)))
+    and_parts (list_all (reached nodes edges) (cone nodes l)) (list_all (reached nodes edges) (cone nodes r)) (sym (list_all-append (reached nodes edges) (cone nodes l) (cone nodes r)) ∙ (rw e at all)))
 
 -- the place in the table of one that it gives
 pub record Given (table : List (Option Node)) (v : ℕ) : Type 0 where
@@ -69,11 +68,6 @@ member_of_map f (x ∷ xs) y (zero, within, is) = (x, (0, omega arith, refl), is
 member_of_map f (x ∷ xs) y (suc k, within, is) =
     let m = member_of_map f xs y (k, omega arith, is) in
     (m.0, (suc m.1.0, omega (arith, m.1.1), m.1.2), m.2)
-
-map_member : {X Y : Type 0} (f : X → Y) (xs : List X) (x : X) → Contains xs x → Contains (map f xs) (f x)
-map_member f [] x (k, within, is) = absurd (omega arith)
-map_member f (y ∷ xs) x (zero, within, is) = (0, omega arith, ap f is)
-map_member f (y ∷ xs) x (suc k, within, is) = let m = map_member f xs x (k, omega arith, is) in (suc m.0, omega (arith, m.1), m.2)
 
 -- an edge that reaches the variable
 record Reaching (nodes : List Node) (outputs : List (OutName × Edge)) (v : ℕ) : Type 0 where
@@ -107,17 +101,17 @@ module _ (nodes : List Node) (names : List ℕ) (outputs : List (OutName × Edge
   used_from : (x v : ℕ) → get_or names v 0 ≡ x → Reaching nodes outputs v → (j : ℕ) × (l : OutName × ℕ) × (slice_get layout.outputs j ≡ Some l) × Contains (circuit.circuit_cone (circuit_of layout) l.1) x
   used_from x v named r =
       let l : OutName × ℕ = (r.output.0, edge_literal h.numbers r.output.1) in
-      let laid : slice_get layout.outputs r.place ≡ Some l = ap (λ ls. slice_get ls r.place) h.outputs_are ∙ map_at (λ (p : OutName × Edge). (p.0, edge_literal h.numbers p.1)) outputs r.place r.output r.there in
-      (r.place, l, laid, (same_cones r.place r.output l x r.there laid).1 (subst (Contains (map (λ k. get_or names k 0) (cone nodes r.output.1))) named (map_member (λ k. get_or names k 0) (cone nodes r.output.1) v r.has_it)))
+      let laid : slice_get layout.outputs r.place ≡ Some l = ap (λ ls. slice_get ls r.place) h.outputs_are ∙ slice_get-to_map (λ (p : OutName × Edge). (p.0, edge_literal h.numbers p.1)) outputs r.place r.output r.there in
+      (r.place, l, laid, (same_cones r.place r.output l x r.there laid).1 (subst (Contains (map (λ k. get_or names k 0) (cone nodes r.output.1))) named (Contains-image (λ k. get_or names k 0) (cone nodes r.output.1) v r.has_it)))
 
   -- a needed input is reached
   input_reached : ConesFromOperands → (v : ℕ) → IsAig nodes → (g : Given h.table v) → (n : (x : Var) × (at h.table g.place ≡ Some (Input x)) × (x.0 ≡ v)) → reached nodes (edges_of outputs) v ≡ true
   input_reached from_operands v arena g n =
       let there : slice_get nodes g.place ≡ Some (Input n.0) = h.needed.nodes_are g.place (Input n.0) n.1 in
       let all : list_all (reached nodes (edges_of outputs)) (cone nodes (plain_edge g.place)) ≡ true =
-      needed_reached from_operands nodes (edges_of outputs) h.table g.place arena h.needed (is_some_of (at h.table g.place) (Input n.0) n.1) (slice_get_within nodes g.place (Input n.0) there) in
+      needed_reached from_operands nodes (edges_of outputs) h.table g.place arena h.needed (is_some_at (at h.table g.place) (Input n.0) n.1) (slice_get_within nodes g.place (Input n.0) there) in
       let c : cone nodes (plain_edge g.place) ≡ v ∷ [] = from_operands nodes g.place (Input n.0) arena there ∙ ap (λ k. k ∷ []) n.2 in
-      (both_parts (reached nodes (edges_of outputs) v) true (rw c at all)).0
+      (and_parts (reached nodes (edges_of outputs) v) true (rw c at all)).0
 
   pub AreUsed-layout : ConesFromOperands → IsAig nodes → (x : ℕ) → Contains layout.inputs x → (j : ℕ) × (l : OutName × ℕ) × (slice_get layout.outputs j ≡ Some l) × Contains (circuit.circuit_cone (circuit_of layout) l.1) x
   AreUsed-layout from_operands arena x here =

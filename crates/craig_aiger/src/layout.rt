@@ -161,7 +161,6 @@ impl Layout {
 #[cfg(test)]
 mod tests {
     use super::*;
-    use crate::Family;
     use craig_base::Var;
     use std::test::Fail;
 
@@ -191,6 +190,14 @@ mod tests {
         Layout::new(alloc, aig, names, &[(name, edge)])
     }
 
+    /// Whether the layout is one gate of the inputs 1 and 2, which is its output.
+    fn is_laid_out(layout: &Layout, name: OutName) -> bool {
+        layout.inputs() == [1, 2].as_slice()
+            && layout.gates() == [(4, 2)].as_slice()
+            && layout.outputs() == 1
+            && layout.output(0) == (name, 6)
+    }
+
     #[test]
     fn the_text_of_one_gate(rt: HostRuntime) -> Result<(), Fail> {
         let mut names = Names::new(rt.alloc());
@@ -206,34 +213,12 @@ mod tests {
         let layout = of_one(rt.alloc(), &aig, &names, name, edge)?;
         let mut out = Vec::new(rt.alloc());
         layout.write_aag(&mut out)?;
+        assert!(rt; is_laid_out(&layout, name));
         assert_eq!(rt; layout.size_of(Form::Aag), 41);
         assert_eq!(rt;
             out.as_slice(),
             b"aag 3 2 0 1 1\n2\n4\n6\n6 4 2\ni0 1\ni1 2\no0 0\n".as_slice()
         );
-        Ok(())
-    }
-
-    #[test]
-    fn inputs_rise_and_gates_keep_their_order(rt: HostRuntime) -> Result<(), Fail> {
-        let mut names = Names::new(rt.alloc());
-        let nine = names.dense(9)?;
-        let two = names.dense(2)?;
-        let five = names.dense(5)?;
-        assert!(rt; nine.0 < names.len());
-        assert!(rt; two.0 < names.len());
-        let mut aig = Aig::new(rt.alloc());
-        let _unused = aig.input(five)?;
-        let edge = Aig::not(both(&mut aig, &names, nine, two)?);
-        let name = OutName {
-            family: Some(Family::Pudlak),
-            cut: 1,
-        };
-        let layout = of_one(rt.alloc(), &aig, &names, name, edge)?;
-        assert_eq!(rt; layout.inputs(), [2, 9].as_slice());
-        assert_eq!(rt; layout.gates(), [(4, 2)].as_slice());
-        assert_eq!(rt; layout.outputs(), 1);
-        assert_eq!(rt; layout.output(0), (name, 7));
         Ok(())
     }
 }

@@ -3,7 +3,7 @@ ghost use Rattle.std.specs.Prelude.{◌≡◌, [], ◌∷◌, List, Option, ◌+
 ghost use Rattle.std.specs.List.{filter_map};
 ghost use Rattle.std.specs.List.Sorted.{IsStrictlyIncreasing};
 ghost use Rattle.craig_aig.specs.declared.node.Node.{Node};
-ghost use Rattle.craig_aiger.specs.Layouts.{AreNamed, IsNumber, IsNumbering, OperandsBelow, at, node_operands, gate_literals, node_variable, edge_literal, ordered};
+ghost use Rattle.craig_aiger.specs.Layouts.{AreNamed, AreTaken, IsNumber, IsNumbering, OperandsBelow, at, node_operands, gate_literals, input_names, node_variable, edge_literal, ordered};
 
 use crate::OutName;
 use crate::needed::gate_operands;
@@ -18,7 +18,7 @@ fn number_of(node: &Option<Node>, names: &Names, inputs: &[u32], taken: u64) -> 
     requires few { length inputs.now < 2 ^ 41 }
     requires taken { taken < 2 ^ 42 }
     requires named { (x : ℕ) → node_variable node.now ≡ Some x → (x < length names.now) × Contains inputs.now (slice_index names.now x) }
-    ensures number { (before : List (Option Node)) → taken ≡ 1 + length inputs.now + length (filter_map node_operands before) → IsNumber names.now inputs.now before node.now result }
+    ensures number { (before : List (Option Node)) → AreTaken inputs.now before taken → IsNumber names.now inputs.now before node.now result }
     ensures small { result < 2 ^ 43 }
 {
     if let Some(var) = node_input(node) {
@@ -53,7 +53,7 @@ pub(crate) fn number_nodes(
     requires few { length inputs.now ≤ 2 ^ 40 }
     requires short { length table.now ≤ 2 ^ 40 }
     requires named { AreNamed names.now table.now }
-    requires names { (x : ℕ) → Contains (map (slice_index names.now) (filter_map node_variable table.now)) x → Contains inputs.now x }
+    requires names { (x : ℕ) → Contains (input_names names.now table.now) x → Contains inputs.now x }
     ensures numbering { IfOk result (λ v. IsNumbering names.now inputs.now table.now v.items) }
     ensures small { IfOk result (λ v. All (λ n. n < 2 ^ 43) v.items) }
 {

@@ -36,15 +36,11 @@ mod tests {
 
     #[test]
     fn a_name_prints_as_its_cut_after_its_letter(rt: HostRuntime) -> Result<(), Fail> {
-        for (family, text) in [
-            (None, "12"),
-            (Some(Family::McMillan), "m12"),
-            (Some(Family::Pudlak), "p12"),
-            (Some(Family::Inverse), "i12"),
-        ] {
-            let name = OutName { family, cut: 12 };
-            assert_eq!(rt; format!(in rt.alloc(); "{name}")?.as_str(), text);
-        }
+        let name = OutName {
+            family: Some(Family::Pudlak),
+            cut: 12,
+        };
+        assert_eq!(rt; format!(in rt.alloc(); "{name}")?.as_str(), "p12");
         Ok(())
     }
 }

@@ -3,7 +3,7 @@ ghost use Rattle.std.specs.Prelude.{◌≡◌, ◌+◌, ◌^◌, ◌<◌, ◌≤
 ghost use Rattle.std.specs.List.{filter_map};
 ghost use Rattle.std.specs.Option.{option_map};
 ghost use Rattle.std.specs.List.Sorted.{IsStrictlyIncreasing};
-ghost use Rattle.craig_aiger.specs.Layouts.{AreNamed, node_variable};
+ghost use Rattle.craig_aiger.specs.Layouts.{AreNamed, input_names, node_variable};
 
 use craig_aig::Node;
 use craig_base::{Names, Var};
@@ -22,7 +22,7 @@ pub(crate) fn node_input(node: &Option<Node>) -> Option<Var>
 /// The names of the inputs in the table, in its order.
 fn names_in(alloc: Global, table: &[Option<Node>], names: &Names) -> Result<Vec<u32>, AllocError>
     requires { AreNamed names.now table.now }
-    ensures names { IfOk result (λ v. v.items ≡ map (slice_index names.now) (filter_map node_variable table.now)) }
+    ensures names { IfOk result (λ v. v.items ≡ input_names names.now table.now) }
     ensures variables { IfOk result (λ v. All (λ x. (1 ≤ x) × (x ≤ 2147483647)) v.items) }
     ensures bound { IfOk result (λ v. vec_len v ≤ length table.now) }
 {
@@ -45,7 +45,7 @@ pub(crate) fn input_names(
     requires { AreNamed names.now table.now }
     ensures rising { IfOk result (λ v. IsStrictlyIncreasing v.items) }
     ensures variables { IfOk result (λ v. All (λ x. (1 ≤ x) × (x ≤ 2147483647)) v.items) }
-    ensures names { IfOk result (λ v. (x : ℕ) → Contains v.items x ↔ Contains (map (slice_index names.now) (filter_map node_variable table.now)) x) }
+    ensures names { IfOk result (λ v. (x : ℕ) → Contains v.items x ↔ Contains (input_names names.now table.now) x) }
     ensures bound { IfOk result (λ v. vec_len v ≤ length table.now) }
 {
     let mut inputs = names_in(alloc, table, names)?;

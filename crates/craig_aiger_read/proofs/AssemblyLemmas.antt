@@ -13,7 +13,8 @@ use Rattle.craig_aiger_read.specs.ReadNumbers.{lines_numbered}
 use Rattle.craig_aiger_read.specs.ReadOrder.{AreNewVariables, moved_by}
 use Rattle.craig_aiger_read.specs.ReadViews.{as_latch, as_root}
 
-ok-same : {A : Type 0} (x y : A) → ◌≡◌ {A = Result A Fault} (Ok x) (Ok y) → x ≡ y
+-- what is read is one thing
+pub ok-same : {A : Type 0} (x y : A) → ◌≡◌ {A = Result A Fault} (Ok x) (Ok y) → x ≡ y
 ok-same x y e = cc
 
 pub map-map : {A B C : Type 0} (g : B → C) (f : A → B) (xs : List A) → map g (map f xs) ≡ map (λ x. g (f x)) xs

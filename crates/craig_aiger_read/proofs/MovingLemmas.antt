@@ -1,5 +1,6 @@
 -- Laws of the new variables of gates.
 use Rattle.std.proofs.Common.{◌≡◌, ◌≢◌, ℕ, suc, ◌+◌, ◌<◌, ◌≤◌, true, eqb, List, ◌∷◌, length, drop, set, get_or, replicate, ◌⊎◌, inl, inr, ⊎_elim, ◌∙◌, ap, arith, ne_eqb}
+use Rattle.craig_aiger_read.proofs.SettleLemmas.{same-place}
 use Rattle.std.proofs.lemmas.Bool.{cases_lt}
 use Rattle.std.proofs.lemmas.Bool.Decides.{nat_tests}
 use Rattle.std.proofs.lemmas.List.{drop_all, drop_more, get_or-replicate, get_or-set_other, get_or-set_same, length-replicate, length-set}
@@ -22,9 +23,6 @@ places-last first order variables is = record {
       let none : place_in (drop (length order) order) j ≡ 0 = ap (λ z. place_in z j) (drop_all (length order) order (omega arith)) in
       ap (λ z. get_or z j 0) is ∙ get_or-replicate (length order) j (first + length order) 0 low ∙ omega (arith, none);
 }
-
-same-place : (i j : ℕ) → (i ≡ j) ⊎ (i ≢ j)
-same-place i j = ⊎_elim (λ (h : i < j). inr (λ e. omega arith)) (λ (h : j ≤ i). ⊎_elim (λ (g : j < i). inr (λ e. omega arith)) (λ (g : i ≤ j). inl (omega arith)) (cases_lt j i)) (cases_lt i j)
 
 -- one place more, from the back
 pub places-more : (first : ℕ) (order variables : List ℕ) (i : ℕ) → PlacesFrom first order (i + 1) variables → get_or order i 0 < length order →

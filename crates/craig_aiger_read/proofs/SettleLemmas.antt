@@ -1,5 +1,6 @@
 -- Laws of gates that wait on a stack for their operands.
 use Rattle.std.proofs.Common.{◌≡◌, ◌≢◌, ℕ, zero, suc, ◌+◌, ◌-◌, ◌*◌, ◌/◌, ◌<◌, ◌≤◌, Bool, true, false, cond, max, ltb, List, [], ◌∷◌, ◌++◌, length, map, take, set, get_or, slice_get, Option, Some, None, ◌⊎◌, inl, inr, ⊎_elim, refl, sym, ◌∙◌, ap, subst, arith}
+use Rattle.std.proofs.lemmas.Option.{same_Some}
 use Rattle.std.proofs.lemmas.Bool.{cases_lt}
 use Rattle.std.proofs.lemmas.Bool.Decides.{nat_tests}
 use Rattle.std.proofs.lemmas.List.{get_or-set_same, get_or-set_other, get_or_append_left, get_or_push, get_or-take, length-set, length-append, length-take-le}
@@ -32,11 +33,9 @@ count-lt ((Some e) ∷ xs) zero inside none = cc
 count-lt (None ∷ xs) (suc j) inside none = omega (arith, count-lt xs j (omega arith) none)
 count-lt ((Some e) ∷ xs) (suc j) inside none = omega (arith, count-lt xs j (omega arith) none)
 
-same-place : (i j : ℕ) → (i ≡ j) ⊎ (i ≢ j)
+-- one place or two
+pub same-place : (i j : ℕ) → (i ≡ j) ⊎ (i ≢ j)
 same-place i j = ⊎_elim (λ (h : i < j). inr (λ e. omega arith)) (λ (h : j ≤ i). ⊎_elim (λ (g : j < i). inr (λ e. omega arith)) (λ (g : i ≤ j). inl (omega arith)) (cases_lt j i)) (cases_lt i j)
-
-some-same : (x y : ℕ) → ◌≡◌ {A = Option ℕ} (Some x) (Some y) → x ≡ y
-some-same x y e = cc
 
 -- the depths with one more
 depths-set : (first : ℕ) (gates : List Gate) (known : List (Option ℕ)) (k d : ℕ) → AreDepths first gates known → k < length known → get_or known k None ≡ None →
@@ -54,7 +53,7 @@ depths-set first gates known k d h inside none is low = record {
       elim (same-place j k) as (λ _. e ≤ known_count (set known k (Some d))) [
         | inl same ↦
             let here : Some d ≡ Some e = sym (get_or-set_same known k (Some d) None inside) ∙ ap (λ z. get_or (set known k (Some d)) z None) (sym same) ∙ found in
-            omega (arith, low, count-set known k d inside none, some-same d e here)
+            omega (arith, low, count-set known k d inside none, same_Some d e here)
         | inr other ↦ omega (arith, h.few j e (sym (get_or-set_other known k j (Some d) None other) ∙ found), count-set known k d inside none)
       ];
 }
@@ -71,7 +70,7 @@ known-by : (first : ℕ) (gates : List Gate) (known : List (Option ℕ)) (v m : 
 unfolding gate_depth
 known-by first gates known v m true h test e =
     let none : gate_at first gates v ≡ None = rw test refl in
-    (leaf-depth first gates (length gates) v none ∙ e, omega (arith, some-same 0 m e))
+    (leaf-depth first gates (length gates) v none ∙ e, omega (arith, same_Some 0 m e))
 known-by first gates known v m false h test e =
     let place : first + (v - first) ≡ v = grind (arith, nat_tests, test) in
     (ap (depth first gates (length gates)) (sym place) ∙ h.right (v - first) m e, h.few (v - first) m e)
@@ -102,7 +101,7 @@ fresh first gates stack i n d path inside low same e =
     let here : depth first gates (length gates) (first + get_or stack i 0) ≡ Some d = ap (λ z. depth first gates (length gates) (first + z)) same ∙ e in
     let fall = path-falls first gates stack (length gates) i m d path (omega (arith, sum, inside)) here in
     let there : Some fall.0 ≡ Some d = sym fall.1 ∙ ap (λ z. depth first gates (length gates) (first + get_or stack z 0)) sum ∙ e in
-    omega (arith, some-same fall.0 d there, fall.2, sum, low)
+    omega (arith, same_Some fall.0 d there, fall.2, sum, low)
 
 none-from : (o : Option ℕ) → ((d : ℕ) → o ≡ Some d → ⊥) → o ≡ None
 none-from None h = refl

@@ -1,5 +1,6 @@
 -- Laws of symbols and of the names that they give.
 use Rattle.std.proofs.Common.{◌≡◌, ◌≢◌, ℕ, zero, suc, ◌+◌, ◌-◌, ◌<◌, ◌≤◌, Bool, true, false, cond, not, ◌&&◌, ◌||◌, eqb, ltb, get_or, List, [], ◌∷◌, ◌++◌, length, map, set, replicate, slice_get, Option, Some, None, Result, Ok, Err, refl, sym, ◌∙◌, ap, arith, ne_eqb}
+use Rattle.std.proofs.lemmas.Bool.{and_parts}
 use Rattle.std.proofs.lemmas.Bool.Decides.{nat_tests}
 use Rattle.std.proofs.lemmas.Option.{cond_some, slice_get-map}
 use Rattle.std.specs.Prelude.{find, is_none, IfErr, OnOk}
@@ -100,11 +101,6 @@ pub names_of-other : (symbols : List Symbol) (s : Symbol) (letter count : ℕ) �
 names_of-other symbols s letter count other =
     range-same (name_of (symbols ++ s ∷ []) letter) (name_of symbols letter) 0 count (λ i low. ap (option_map (λ (x : Symbol). x.name)) (find-other (is_symbol_of letter i) symbols s (other i)))
 
-both : (b c : Bool) → (b && c) ≡ true → (b ≡ true) × (c ≡ true)
-both true true e = (refl, refl)
-both true false e = cc
-both false c e = cc
-
 not-true : (b : Bool) → not b ≡ true → b ≡ false
 not-true true e = cc
 not-true false e = refl
@@ -113,7 +109,7 @@ not-true false e = refl
 pub names_of-set : (symbols : List Symbol) (s : Symbol) (count : ℕ) (names : List (Option (List ℕ))) → names ≡ names_of symbols s.letter count → is_free names s.position ≡ true →
     names_of (symbols ++ s ∷ []) s.letter count ≡ set names s.position (Some s.name)
 names_of-set symbols s count names is free =
-    let tests = both (ltb s.position count) (not (list_any (is_symbol_of s.letter s.position) symbols)) (sym (ap (λ z. is_free z s.position) is ∙ is_free-names symbols s.letter count s.position) ∙ free) in
+    let tests = and_parts (ltb s.position count) (not (list_any (is_symbol_of s.letter s.position) symbols)) (sym (ap (λ z. is_free z s.position) is ∙ is_free-names symbols s.letter count s.position) ∙ free) in
     let inside : s.position < count = grind (arith, nat_tests, tests.0) in
     let own : is_symbol_of s.letter s.position s ≡ true = grind (arith, nat_tests) in
     let f = name_of symbols s.letter in

@@ -1,13 +1,11 @@
 -- Laws of the definitions of a text, section by section.
 use Rattle.std.proofs.Common.{◌≡◌, ℕ, zero, suc, ◌+◌, ◌<◌, ◌≤◌, List, [], ◌∷◌, ◌++◌, length, map, Result, Ok, Err, refl, sym, ap, arith}
+use Rattle.craig_aiger_read.proofs.AssemblyLemmas.{ok-same}
 use Rattle.std.proofs.lemmas.List.{length-append, length-map}
 use Rattle.craig_spec.specs.AigerFault.{Fault}
 use Rattle.craig_spec.specs.AigerReading.{Counts, GateLine, LatchLine, RootLine, Symbol, TextLine, ◌>>=◌, gate_in, input_in, latch_in, leaves_of, read_lines, root_in, written_in}
 use Rattle.craig_aiger_read.specs.ReadNames.{symbols_read}
 use Rattle.craig_aiger_read.specs.ReadViews.{behind_constant}
-
-ok-same : {A : Type 0} (x y : A) → ◌≡◌ {A = Result A Fault} (Ok x) (Ok y) → x ≡ y
-ok-same x y e = cc
 
 -- what is read behind the constant's variable
 pub behind_constant-ok : (found : Result (List ℕ × List TextLine) Fault) (keys : List ℕ) (lines : List TextLine) → behind_constant found ≡ Ok (keys, lines) →

@@ -17,8 +17,11 @@ known_count ((Some d) ∷ known) = suc (known_count known)
 
 -- what is known is right, and no depth is more than the number of those that are known
 pub record AreDepths (first : ℕ) (gates : List Gate) (known : List (Option ℕ)) : Type 0 where
+  -- there is a place for each gate
   pub long : length known ≡ length gates
+  -- what is known is right
   pub right : (j d : ℕ) → slice_index_or known j None ≡ Some d → gate_depth first gates j ≡ Some d
+  -- no depth is more than the number of those that are known
   pub few : (j d : ℕ) → slice_index_or known j None ≡ Some d → d ≤ known_count known
 
 -- the depth of a literal's variable, where it is known: 0 for one that is no gate

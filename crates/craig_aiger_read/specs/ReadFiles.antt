@@ -7,10 +7,11 @@ use Rattle.craig_aiger_read.specs.declared.latch_line.LatchLine.{LatchLine}
 use Rattle.craig_aiger_read.specs.declared.root.Root.{Root}
 use Rattle.craig_aiger_read.specs.ReadViews.{as_operands, as_reset}
 
--- a latch, and an output or a bad literal, with their names
+-- a latch with its name
 abbrev pub file_latch : Latch → FileLatch
 file_latch l = record { next = l.next; reset = as_reset l.reset; name = l.name }
 
+-- an output or a bad literal with its name
 abbrev pub file_root : Root → FileRoot
 file_root r = record { literal = r.literal; name = r.name }
 

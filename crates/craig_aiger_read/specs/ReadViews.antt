@@ -27,13 +27,15 @@ as_reset Zero = AsFalse
 as_reset One = AsTrue
 as_reset Open = AsEither
 
--- the line of a latch, of an output or a bad literal, of a gate
+-- the line of a latch
 abbrev pub as_latch : LatchLine → read.LatchLine
 as_latch l = record { offset = l.offset; variable = l.variable; next = l.next; reset = as_reset l.reset }
 
+-- the line of an output or a bad literal
 abbrev pub as_root : RootLine → read.RootLine
 as_root r = record { offset = r.offset; literal = r.literal }
 
+-- the line of a gate
 abbrev pub as_gate : GateLine → read.GateLine
 as_gate g = record { offset = g.offset; variable = g.variable; left = g.left; right = g.right }
 
@@ -41,9 +43,10 @@ as_gate g = record { offset = g.offset; variable = g.variable; left = g.left; ri
 abbrev pub as_operands : Gate → circuit.Gate
 as_operands g = record { left = g.left; right = g.right }
 
--- the variables that lines of latches and of gates define
+-- the variables that lines of latches define
 abbrev pub latch_variables : List read.LatchLine → List ℕ
 latch_variables ls = map (λ (l : read.LatchLine). l.variable) ls
 
+-- the variables that lines of gates define
 abbrev pub gate_variables : List read.GateLine → List ℕ
 gate_variables gs = map (λ (g : read.GateLine). g.variable) gs

@@ -1,9 +1,9 @@
 //! The lines of the gates.
 ghost use Rattle.std.specs.Prelude.{◌≡◌, ◌≤◌, ◌++◌, [], ◌∷◌, map, length, nat_eq, IfOk, false};
 ghost use Rattle.std.specs.List.{list_any};
-ghost use Rattle.craig_spec.specs.AigerReading.{gate_in, gate_of, numbers_in, read_lines};
+ghost use Rattle.craig_spec.specs.AigerReading.{gate_of, numbers_in};
 ghost use Rattle.craig_aiger_read.specs.ReadFaults.{IsReadAs};
-ghost use Rattle.craig_aiger_read.specs.ReadLines.{lines_at};
+ghost use Rattle.craig_aiger_read.specs.ReadLines.{gates_at, lines_at};
 ghost use Rattle.craig_aiger_read.specs.ReadViews.{as_counts, as_gate, gate_variables};
 
 use crate::AigerError;
@@ -36,7 +36,7 @@ pub(crate) fn read_gates<'a>(
     variables: &mut IndexSet<u64>,
 ) -> Result<(Vec<GateLine>, &'a [u8]), AigerError>
     requires { length text.now ≤ end }
-    ensures read { IsReadAs (λ x. (map as_gate x.0.items, lines_at end x.1.now)) result (read_lines (gate_in (as_counts counts.now) variables.old.keys) end counts.now.gates [] (lines_at end text.now)) }
+    ensures read { IsReadAs (λ x. (map as_gate x.0.items, lines_at end x.1.now)) result (gates_at counts.now variables.old.keys end text.now) }
     ensures variables { IfOk result (λ x. variables.new.keys ≡ variables.old.keys ++ gate_variables (map as_gate x.0.items)) }
     ensures shorter { IfOk result (λ x. length x.1.now ≤ length text.now) }
 {

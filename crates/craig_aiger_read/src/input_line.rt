@@ -1,9 +1,9 @@
 //! The lines of the inputs.
 ghost use Rattle.std.specs.Prelude.{◌≡◌, ◌≤◌, [], length, nat_eq, IfOk, false};
 ghost use Rattle.std.specs.List.{list_any};
-ghost use Rattle.craig_spec.specs.AigerReading.{input_in, input_of, numbers_in, read_lines};
+ghost use Rattle.craig_spec.specs.AigerReading.{input_of, numbers_in};
 ghost use Rattle.craig_aiger_read.specs.ReadFaults.{IsReadAs};
-ghost use Rattle.craig_aiger_read.specs.ReadLines.{lines_at};
+ghost use Rattle.craig_aiger_read.specs.ReadLines.{inputs_at, lines_at};
 ghost use Rattle.craig_aiger_read.specs.ReadViews.{as_counts, behind_constant};
 
 use crate::AigerError;
@@ -22,7 +22,7 @@ pub(crate) fn read_inputs<'a>(
     text: &'a [u8],
 ) -> Result<(IndexSet<u64>, &'a [u8]), AigerError>
     requires { length text.now ≤ end }
-    ensures read { IsReadAs (λ x. (x.0.keys, lines_at end x.1.now)) result (behind_constant (read_lines (input_in (as_counts counts.now)) end counts.now.inputs [] (lines_at end text.now))) }
+    ensures read { IsReadAs (λ x. (x.0.keys, lines_at end x.1.now)) result (behind_constant (inputs_at counts.now end text.now)) }
     ensures shorter { IfOk result (λ x. length x.1.now ≤ length text.now) }
 {
     let mut variables = IndexSet::new(alloc);

@@ -1,9 +1,9 @@
 //! The lines of the latches.
 ghost use Rattle.std.specs.Prelude.{◌≡◌, ◌≤◌, ◌++◌, [], map, length, nat_eq, IfOk, false};
 ghost use Rattle.std.specs.List.{list_any};
-ghost use Rattle.craig_spec.specs.AigerReading.{latch_in, latch_of, latch_with, numbers_in, read_lines, reset_of};
+ghost use Rattle.craig_spec.specs.AigerReading.{latch_of, latch_with, numbers_in, reset_of};
 ghost use Rattle.craig_aiger_read.specs.ReadFaults.{IsReadAs};
-ghost use Rattle.craig_aiger_read.specs.ReadLines.{lines_at};
+ghost use Rattle.craig_aiger_read.specs.ReadLines.{latches_at, lines_at};
 ghost use Rattle.craig_aiger_read.specs.ReadViews.{as_counts, as_latch, as_reset, latch_variables};
 
 use crate::counts::Counts;
@@ -36,7 +36,7 @@ pub(crate) fn read_latches<'a>(
     variables: &mut IndexSet<u64>,
 ) -> Result<(Vec<LatchLine>, &'a [u8]), AigerError>
     requires { length text.now ≤ end }
-    ensures read { IsReadAs (λ x. (map as_latch x.0.items, lines_at end x.1.now)) result (read_lines (latch_in (as_counts counts.now) variables.old.keys) end counts.now.latches [] (lines_at end text.now)) }
+    ensures read { IsReadAs (λ x. (map as_latch x.0.items, lines_at end x.1.now)) result (latches_at counts.now variables.old.keys end text.now) }
     ensures variables { IfOk result (λ x. variables.new.keys ≡ variables.old.keys ++ latch_variables (map as_latch x.0.items)) }
     ensures shorter { IfOk result (λ x. length x.1.now ≤ length text.now) }
 {

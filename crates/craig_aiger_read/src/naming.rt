@@ -21,7 +21,7 @@ pub(crate) fn named_latches(
     requires small { AreSmall variables.now }
     requires lines { length lines.now ≡ length names.items }
     requires nexts { length nexts.now ≡ length names.items }
-    ensures { IfOk result (λ latches. map file_latch latches ≡ latches_with (moved_by first variables.now) lines.now nexts.now names.items) }
+    ensures { IfOk result (λ l. map file_latch l ≡ latches_with (moved_by first variables.now) lines.now nexts.now names.items) }
 {
     let mut latches = Vec::new(alloc);
     for (place, name) in names.into_iter().enumerate() {
@@ -43,7 +43,7 @@ pub(crate) fn named_roots(
     requires within { All (λ l. l / 2 < first + length variables.now) literals.now }
     requires small { AreSmall variables.now }
     requires long { length literals.now ≡ length names.items }
-    ensures { IfOk result (λ roots. map file_root roots ≡ roots_with (moved_by first variables.now) literals.now names.items) }
+    ensures { IfOk result (λ r. map file_root r ≡ roots_with (moved_by first variables.now) literals.now names.items) }
 {
     let mut roots = Vec::new(alloc);
     for (place, name) in names.into_iter().enumerate() {

@@ -61,16 +61,12 @@ fn circuit_of(alloc: Global, written: Written) -> Result<Circuit, AigerError>
 #[cfg(test)]
 mod tests {
     use super::*;
-    use crate::{Gate, Name, Reset, Roots};
+    use crate::{Gate, Name, Roots};
     use std::alloc::AllocError;
     use std::test::Fail;
 
     const HALF_ADDER: &[u8] =
         b"aag 7 2 0 2 3\n2\n4\n6\n12\n6 13 15\n12 2 4\n14 3 5\ni0 x\ni1 y\no0 s\no1 c\nc\nhalf adder\n";
-
-    /// A latch with each reset, a bad literal, gates behind their use, a name that is empty, and no last newline.
-    const LATCHES: &[u8] =
-        b"aag 9 1 3 1 2 1\n2\n4 12\n6 5 1\n8 9 8\n14\n13\n14 12 5\n12 2 4\ni0 \nl2 x y\nb0 b";
 
     /// Texts, and what is printed of their first faults.
     const FAULTS: [(&[u8], &str); 16] = [
@@ -165,12 +161,15 @@ mod tests {
         circuit.gates.as_slice().get(place) == Some(&Gate { left, right })
     }
 
-    /// Whether the latch at the place has the next literal and the reset.
-    fn has_latch(circuit: &Circuit, place: usize, next: u64, reset: Reset) -> bool {
-        match circuit.latches.as_slice().get(place) {
-            Some(latch) => latch.next == next && latch.reset == reset,
-            None => false,
-        }
+    /// Whether the circuit is the half adder: its gates by depth, its inputs and its outputs with their names.
+    fn is_half_adder(circuit: &Circuit) -> bool {
+        has_input(circuit, 0, b"x")
+            && has_input(circuit, 1, b"y")
+            && has_gate(circuit, 0, 2, 4)
+            && has_gate(circuit, 1, 3, 5)
+            && has_gate(circuit, 2, 7, 9)
+            && has_root(&circuit.outputs, 0, 10, b"s")
+            && has_root(&circuit.outputs, 1, 6, b"c")
     }
 
     #[test]
@@ -178,30 +177,7 @@ mod tests {
         let Ok(circuit) = read(rt.alloc(), HALF_ADDER) else {
             panic!(rt; "the text has no fault");
         };
-        assert!(rt; has_input(&circuit, 0, b"x"));
-        assert!(rt; has_input(&circuit, 1, b"y"));
-        for (place, left, right) in [(0, 2, 4), (1, 3, 5), (2, 7, 9)] {
-            assert!(rt; has_gate(&circuit, place, left, right));
-        }
-        assert!(rt; has_root(&circuit.outputs, 0, 10, b"s"));
-        assert!(rt; has_root(&circuit.outputs, 1, 6, b"c"));
-        Ok(())
-    }
-
-    #[test]
-    fn latches_have_their_resets(rt: HostRuntime) -> Result<(), Fail> {
-        let Ok(circuit) = read(rt.alloc(), LATCHES) else {
-            panic!(rt; "the text has no fault");
-        };
-        assert!(rt; has_input(&circuit, 0, b""));
-        for (place, next, reset) in [
-            (0, 10, Reset::Zero),
-            (1, 5, Reset::One),
-            (2, 9, Reset::Open),
-        ] {
-            assert!(rt; has_latch(&circuit, place, next, reset));
-        }
-        assert!(rt; has_root(&circuit.bads, 0, 11, b"b"));
+        assert!(rt; is_half_adder(&circuit));
         Ok(())
     }
 

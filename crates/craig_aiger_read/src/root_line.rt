@@ -1,8 +1,8 @@
 //! The lines of the outputs, and those of the bad literals.
 ghost use Rattle.std.specs.Prelude.{◌≡◌, ◌≤◌, [], map, length, IfOk};
-ghost use Rattle.craig_spec.specs.AigerReading.{root_in, root_of, numbers_in, read_lines};
+ghost use Rattle.craig_spec.specs.AigerReading.{root_of, numbers_in};
 ghost use Rattle.craig_aiger_read.specs.ReadFaults.{IsReadAs};
-ghost use Rattle.craig_aiger_read.specs.ReadLines.{lines_at};
+ghost use Rattle.craig_aiger_read.specs.ReadLines.{lines_at, roots_at};
 ghost use Rattle.craig_aiger_read.specs.ReadViews.{as_counts, as_root};
 
 use crate::AigerError;
@@ -30,7 +30,7 @@ pub(crate) fn read_roots<'a>(
     text: &'a [u8],
 ) -> Result<(Vec<RootLine>, &'a [u8]), AigerError>
     requires { length text.now ≤ end }
-    ensures read { IsReadAs (λ x. (map as_root x.0.items, lines_at end x.1.now)) result (read_lines (root_in (as_counts counts.now)) end count [] (lines_at end text.now)) }
+    ensures read { IsReadAs (λ x. (map as_root x.0.items, lines_at end x.1.now)) result (roots_at counts.now count end text.now) }
     ensures shorter { IfOk result (λ x. length x.1.now ≤ length text.now) }
 {
     let mut roots = Vec::new(alloc);

@@ -1,11 +1,11 @@
 //! The symbols of a text, which give names.
 ghost use Rattle.std.specs.Prelude.{◌≡◌, ◌≤◌, ◌++◌, ℕ, ◌==◌, [], ◌∷◌, List, Some, Ok, length, false, replicate, slice_index, slice_set, take_while, IfErr, IfNone, IfOk, IfSome, OnOk};
 ghost use Rattle.std.specs.Option.{option_map};
-ghost use Rattle.craig_spec.specs.AigerReading.{Counts as AllCounts, Symbol, TextLine, checked, is_before_comments, symbol_in, symbol_of};
+ghost use Rattle.craig_spec.specs.AigerReading.{checked, is_before_comments, symbol_of};
 ghost use Rattle.craig_spec.specs.AigerFault.{FaultKind};
 ghost use Rattle.craig_aiger_read.specs.ReadFaults.{IsFaultOf, IsReadAs};
 ghost use Rattle.craig_aiger_read.specs.ReadLines.{IsFirstLine, lines_at};
-ghost use Rattle.craig_aiger_read.specs.ReadNames.{HasNames, is_free, symbols_read};
+ghost use Rattle.craig_aiger_read.specs.ReadNames.{AddsName, AreNamesRead, HasNames, IsNameFault, is_free, symbols_read};
 ghost use Rattle.craig_aiger_read.specs.ReadViews.{as_counts};
 
 use crate::counts::Counts;
@@ -36,7 +36,7 @@ pub(crate) fn read_symbols(
     text: &[u8],
 ) -> Result<NameTable, AigerError>
     requires { length text.now ≤ end }
-    ensures names { IfOk result (λ names. (symbols : List Symbol) × (rest : List TextLine) × (symbols_read (as_counts counts.now) end (lines_at end text.now) ≡ Ok (symbols, rest)) × HasNames (as_counts counts.now) symbols names) }
+    ensures names { IfOk result (λ n. AreNamesRead (as_counts counts.now) (symbols_read (as_counts counts.now) end (lines_at end text.now)) n) }
     ensures fault { IfErr result (λ e. IsFaultOf e (symbols_read (as_counts counts.now) end (lines_at end text.now))) }
 {
     let mut names = no_names(alloc, counts)?;
@@ -104,10 +104,8 @@ fn add_symbol(
     offset: u64,
     line: &[u8],
 ) -> Result<(), AigerError>
-    ensures named { OnOk result ((c : AllCounts) (symbols : List Symbol) → HasNames c symbols names.old →
-        (s : Symbol) × (symbol_in c symbols (record { offset = offset; bytes = line.now }) ≡ Ok s) × HasNames c (symbols ++ s ∷ []) names.new) }
-    ensures fault { IfErr result (λ e. (c : AllCounts) (symbols : List Symbol) → HasNames c symbols names.old →
-        IsFaultOf e (symbol_in c symbols (record { offset = offset; bytes = line.now }))) }
+    ensures named { OnOk result (AddsName offset line.now names.old names.new) }
+    ensures fault { IfErr result (IsNameFault offset line.now names.old) }
 {
     let Some((letter, position, name)) = symbol_in_line(line) else {
         return Err(AigerError::Symbol { place: offset });

@@ -1,10 +1,10 @@
 //! The variables that a text defines, each with its number.
 ghost use Rattle.std.specs.Prelude.{◌≡◌, ◌/◌, ◌<◌, ◌≤◌, All, IfOk, IfSome, length, map, if◌then◌else◌, None, Some};
 ghost use Rattle.std.specs.Option.{option_map};
-ghost use Rattle.craig_spec.specs.AigerReading.{is_literal, is_new, is_variable, gate_use, numbered, uses_other};
+ghost use Rattle.craig_spec.specs.AigerReading.{is_literal, is_new, is_variable, numbered};
 ghost use Rattle.craig_aiger_read.specs.ReadFaults.{IsReadAs};
-ghost use Rattle.craig_aiger_read.specs.ReadViews.{as_counts, as_gate, as_operands};
-ghost use Rattle.craig_aiger_read.specs.ReadNumbers.{gates_numbered, latches_numbered, numbered_gate, roots_numbered};
+ghost use Rattle.craig_aiger_read.specs.ReadViews.{as_counts, as_operands};
+ghost use Rattle.craig_aiger_read.specs.ReadNumbers.{IsGateWithin, gate_if_known, gates_numbered, latches_numbered, roots_numbered};
 
 use crate::counts::Counts;
 use crate::gate_line::GateLine;
@@ -95,7 +95,7 @@ pub(crate) fn number_gates(
 ) -> Result<Vec<Gate>, AigerError>
     requires { length variables.now.keys ≤ 1000000000000000001 }
     ensures read { IsReadAs (λ v. map as_operands v.items) result (gates_numbered variables.now.keys gates.now) }
-    ensures within { IfOk result (λ v. All (λ g. (g.left / 2 < length variables.now.keys) × (g.right / 2 < length variables.now.keys)) v.items) }
+    ensures within { IfOk result (λ v. All (IsGateWithin (length variables.now.keys)) v.items) }
 {
     let mut numbered = Vec::new(alloc);
     for gate in gates {
@@ -110,8 +110,8 @@ pub(crate) fn number_gates(
 /// The operands of a gate, with the numbers of their variables.
 fn number_gate(variables: &IndexSet<u64>, gate: &GateLine) -> Option<Gate>
     requires { length variables.now.keys ≤ 1000000000000000001 }
-    ensures gate { option_map as_operands result ≡ (if uses_other variables.now.keys (gate_use (as_gate gate.now)) then None else Some (numbered_gate variables.now.keys gate.now)) }
-    ensures within { IfSome result (λ g. (g.left / 2 < length variables.now.keys) × (g.right / 2 < length variables.now.keys)) }
+    ensures gate { option_map as_operands result ≡ gate_if_known variables.now.keys gate.now }
+    ensures within { IfSome result (IsGateWithin (length variables.now.keys)) }
 {
     Some(Gate {
         left: number_literal(variables, gate.left)?,

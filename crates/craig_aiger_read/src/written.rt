@@ -1,10 +1,10 @@
 //! What a text says before its variables are numbered anew.
-ghost use Rattle.std.specs.Prelude.{◌≡◌, ◌≤◌, Ok, length, IfErr, IfOk};
-ghost use Rattle.craig_spec.specs.AigerReading.{Written as WrittenText, written_in};
+ghost use Rattle.std.specs.Prelude.{◌≡◌, ◌≤◌, length, IfErr, IfOk};
+ghost use Rattle.craig_spec.specs.AigerReading.{written_in};
 ghost use Rattle.craig_aiger_read.specs.ReadFaults.{IsFaultOf};
 ghost use Rattle.craig_aiger_read.specs.ReadLines.{lines_at};
 ghost use Rattle.craig_aiger_read.specs.ReadViews.{as_counts};
-ghost use Rattle.craig_aiger_read.specs.ReadWritten.{KeepsWritten};
+ghost use Rattle.craig_aiger_read.specs.ReadWritten.{IsKeptRead};
 
 use crate::AigerError;
 use crate::counts::Counts;
@@ -41,7 +41,7 @@ pub(crate) fn read_written(
     text: &[u8],
 ) -> Result<Written, AigerError>
     requires { length text.now ≤ end }
-    ensures written { IfOk result (λ kept. (w : WrittenText) × (written_in (as_counts counts.now) end (lines_at end text.now) ≡ Ok w) × KeepsWritten w kept) }
+    ensures written { IfOk result (IsKeptRead (written_in (as_counts counts.now) end (lines_at end text.now))) }
     ensures few { IfOk result (λ kept. length kept.variables.keys ≤ 1000000000000000001) }
     ensures fault { IfErr result (λ e. IsFaultOf e (written_in (as_counts counts.now) end (lines_at end text.now))) }
 {

@@ -34,7 +34,9 @@ all_read ((Some a) ∷ xs) = option_map (λ read. a ∷ read) (all_read xs)
 
 -- a line, and the number of bytes before it
 pub record TextLine : Type 0 where
+  -- the number of bytes before the line
   pub offset : ℕ
+  -- the bytes of the line, without its newline
   pub bytes : List ℕ
 
 -- the pieces without a last one that is empty
@@ -67,11 +69,17 @@ numbers_in bytes = if nat_le (length (words_of bytes)) 9 then all_read (map numb
 
 -- the numbers of the header: the greatest variable, and how many there are of each kind
 pub record Counts : Type 0 where
+  -- the greatest variable
   pub greatest : ℕ
+  -- how many inputs there are
   pub inputs : ℕ
+  -- how many latches there are
   pub latches : ℕ
+  -- how many outputs there are
   pub outputs : ℕ
+  -- how many gates there are
   pub gates : ℕ
+  -- how many bad literals there are
   pub bads : ℕ
 
 -- the counts, in the order in which a header has them; those that are missing are 0
@@ -108,25 +116,40 @@ is_new variables l = not (list_any (nat_eq (l / 2)) variables)
 
 -- how a latch starts: as false, as true, or as either
 pub data Reset : Type 0 where
+  -- as false
   Zero : Reset
+  -- as true
   One : Reset
+  -- as either
   Open : Reset
 
--- the lines of a latch, of an output or a bad literal, and of a gate, each with the number of bytes before it
+-- the line of a latch
 pub record LatchLine : Type 0 where
+  -- the number of bytes before the line
   pub offset : ℕ
+  -- the variable that is defined
   pub variable : ℕ
+  -- the literal that the latch goes on with
   pub next : ℕ
+  -- how the latch starts
   pub reset : Reset
 
+-- the line of an output or of a bad literal
 pub record RootLine : Type 0 where
+  -- the number of bytes before the line
   pub offset : ℕ
+  -- the literal
   pub literal : ℕ
 
+-- the line of a gate
 pub record GateLine : Type 0 where
+  -- the number of bytes before the line
   pub offset : ℕ
+  -- the variable that is defined
   pub variable : ℕ
+  -- the first operand literal
   pub left : ℕ
+  -- the second operand literal
   pub right : ℕ
 
 -- the variable of an input with this literal, given the variables before it
@@ -163,23 +186,29 @@ gate_of c known offset (Some (own ∷ (left ∷ (right ∷ [])))) =
     (checked (is_new known own) FaultKind.Twice offset (Ok (record { offset = offset; variable = own / 2; left = left; right = right })))
 gate_of c known offset other = fault FaultKind.Line offset
 
--- what a line is in its section, given what the lines before it in the section are; the constant has the variable 0
+-- the variable of the input that a line is, given those of the lines before it; the constant has the variable 0
 unfoldable pub input_in : Counts → List ℕ → TextLine → Result ℕ Fault
 input_in c before line = input_of c (0 ∷ before) line.offset (numbers_in line.bytes)
 
+-- the latch that a line is, given the variables before its section and the latches before it
 unfoldable pub latch_in : Counts → List ℕ → List LatchLine → TextLine → Result LatchLine Fault
 latch_in c known before line = latch_of c (known ++ map (λ (l : LatchLine). l.variable) before) line.offset (numbers_in line.bytes)
 
+-- the output or bad literal that a line is
 unfoldable pub root_in : Counts → List RootLine → TextLine → Result RootLine Fault
 root_in c before line = root_of c line.offset (numbers_in line.bytes)
 
+-- the gate that a line is, given the variables before its section and the gates before it
 unfoldable pub gate_in : Counts → List ℕ → List GateLine → TextLine → Result GateLine Fault
 gate_in c known before line = gate_of c (known ++ map (λ (g : GateLine). g.variable) before) line.offset (numbers_in line.bytes)
 
 -- a symbol: the letter of a kind of thing, the position of the thing among its kind, and its name
 pub record Symbol : Type 0 where
+  -- the letter of the kind of what is named: i, l, o or b
   pub letter : ℕ
+  -- where what is named stands among those of its kind
   pub position : ℕ
+  -- the bytes of the name
   pub name : List ℕ
 
 -- whether the byte is a space
@@ -213,6 +242,7 @@ symbol_checked c before offset None = fault FaultKind.Symbol offset
 symbol_checked c before offset (Some s) =
     checked (nat_lt s.position (count_named c s.letter) && not (list_any (is_symbol_of s.letter s.position) before)) FaultKind.Symbol offset (Ok s)
 
+-- the symbol that a line is, given those before it
 unfoldable pub symbol_in : Counts → List Symbol → TextLine → Result Symbol Fault
 symbol_in c before line = symbol_checked c before line.offset (symbol_of line.bytes)
 
@@ -228,11 +258,17 @@ read_lines each end (suc count) before (line ∷ lines) = each before line >>= �
 
 -- what a text says before its variables are numbered anew
 pub record Written : Type 0 where
+  -- the variables of the inputs
   pub inputs : List ℕ
+  -- the lines of the latches
   pub latches : List LatchLine
+  -- the lines of the outputs
   pub outputs : List RootLine
+  -- the lines of the bad literals
   pub bads : List RootLine
+  -- the lines of the gates
   pub gates : List GateLine
+  -- the symbols
   pub symbols : List Symbol
 
 -- the variables of the constant, the inputs and the latches, in order
@@ -256,15 +292,20 @@ variables_of w = leaves_of w.inputs w.latches ++ map (λ (g : GateLine). g.varia
 
 -- the literals that a line uses, and the number of bytes before it
 pub record Use : Type 0 where
+  -- the number of bytes before the line
   pub offset : ℕ
+  -- the literals
   pub literals : List ℕ
 
+-- what the line of a latch uses
 abbrev pub latch_use : LatchLine → Use
 latch_use l = record { offset = l.offset; literals = l.next ∷ [] }
 
+-- what the line of an output or a bad literal uses
 abbrev pub root_use : RootLine → Use
 root_use r = record { offset = r.offset; literals = r.literal ∷ [] }
 
+-- what the line of a gate uses
 abbrev pub gate_use : GateLine → Use
 gate_use g = record { offset = g.offset; literals = g.left ∷ (g.right ∷ []) }
 
@@ -332,21 +373,33 @@ moved_gate first order g = record { left = moved first order g.left; right = mov
 abbrev pub moved_gates : ℕ → List Gate → List ℕ → List Gate
 moved_gates first gates order = map (λ j. moved_gate first order (slice_index_or gates j (record { left = 0; right = 0 }))) order
 
--- a file: for each input perhaps a name, then latches, outputs, bad literals and gates, where the literals are those of the constant, the inputs, the latches and the gates in this order
+-- a latch
 pub record FileLatch : Type 0 where
+  -- the literal that the latch goes on with
   pub next : ℕ
+  -- how the latch starts
   pub reset : Reset
+  -- its name, where it has one
   pub name : Option (List ℕ)
 
+-- an output or a bad literal
 pub record FileRoot : Type 0 where
+  -- the literal
   pub literal : ℕ
+  -- its name, where it has one
   pub name : Option (List ℕ)
 
+-- a file: the literals are those of the constant, the inputs, the latches and the gates in this order
 pub record AigerFile : Type 0 where
+  -- for each input its name, where it has one
   pub inputs : List (Option (List ℕ))
+  -- the latches
   pub latches : List FileLatch
+  -- the outputs
   pub outputs : List FileRoot
+  -- the bad literals
   pub bads : List FileRoot
+  -- the gates
   pub gates : List Gate
 
 -- the number of variables of a file, the constant counted in
@@ -372,11 +425,12 @@ name_of symbols letter position = option_map (λ (s : Symbol). s.name) (find (is
 abbrev pub names_of : List Symbol → ℕ → ℕ → List (Option (List ℕ))
 names_of symbols letter count = map (name_of symbols letter) (range_with_len 0 count)
 
--- the latches, and the outputs or bad literals, with their names and with renumbered literals
+-- the latches with their names and with renumbered literals
 abbrev pub named_latches : (ℕ → ℕ) → List Symbol → ℕ → List LatchLine → List FileLatch
 named_latches renumbered symbols i [] = []
 named_latches renumbered symbols i (l ∷ ls) = record { next = renumbered l.next; reset = l.reset; name = name_of symbols 108 i } ∷ named_latches renumbered symbols (i + 1) ls
 
+-- the outputs or the bad literals with their names and with renumbered literals
 abbrev pub named_roots : (ℕ → ℕ) → List Symbol → ℕ → ℕ → List RootLine → List FileRoot
 named_roots renumbered symbols letter i [] = []
 named_roots renumbered symbols letter i (r ∷ rs) = record { literal = renumbered r.literal; name = name_of symbols letter i } ∷ named_roots renumbered symbols letter (i + 1) rs

@@ -9,18 +9,25 @@ use Rattle.craig_spec.specs.Truth.{Assignment, variable_value}
 
 -- a gate is true where both of its operand literals are
 pub record Gate : Type 0 where
+  -- the first operand literal
   pub left : ℕ
+  -- the second operand literal
   pub right : ℕ
 
 -- a literal with a name, which is a list of bytes
 pub record Output : Type 0 where
+  -- the bytes of the name
   pub name : List ℕ
+  -- the literal
   pub literal : ℕ
 
 -- the input variables, the gates and the outputs, each in order
 pub record Circuit : Type 0 where
+  -- the variables of the script that the inputs stand for
   pub inputs : List ℕ
+  -- the gates
   pub gates : List Gate
+  -- the outputs
   pub outputs : List Output
 
 -- the number of variables, the constant counted in
@@ -29,7 +36,9 @@ variable_count c = 1 + length c.inputs + length c.gates
 
 -- each gate has operands below its own literal, and each output is a literal of the circuit
 pub record IsCircuit (c : Circuit) : Type 0 where
+  -- each gate has operands below its own variable
   pub operands : (j : ℕ) (g : Gate) → slice_get c.gates j ≡ Some g → (g.left / 2 < 1 + length c.inputs + j) × (g.right / 2 < 1 + length c.inputs + j)
+  -- each output is a literal of the circuit
   pub literals : All (λ o. o.literal / 2 < variable_count c) c.outputs
 
 -- what each variable has, where the constant and the inputs have the first things, and f says what a gate has from what the variables before it have

@@ -24,10 +24,6 @@ clause_value-named names dense s (l ∷ c) agrees over =
     let here : literal_value dense l ≡ literal_value s (named_literal names l) = ap (λ b. cond l.negated (not b) b) (agrees l.var (ltb-true l.var (length names) parts.0)) in
     rw (here, clause_value-named names dense s c agrees parts.1) refl
 
--- clauses with the same literals have the same value
-pub clause_value-same : (s : Assignment) (c d : Clause) → SameLiterals c d → clause_value s c ≡ true → clause_value s d ≡ true
-clause_value-same s c d same e = list_any-more (literal_value s) c d (λ l. (same l).0) e
-
 -- a model of the clauses that pass a test makes each of them true
 pub model-within : (s : Assignment) (test : ℕ → Bool) (cs : List PartClause) → IsModel s (clauses_within test cs) → (c : PartClause) → Contains cs c → test c.part ≡ true → clause_value s c.clause ≡ true
 model-within s test [] model c (k, within, at) e = absurd (omega (arith, within))

@@ -1,6 +1,7 @@
 -- The one refutation that the interpolants of all cuts are drawn from, over the variables of the script.
 use Rattle.std.proofs.Common.{◌≡◌, ◌∙◌, sym, ap, subst, refl, ℕ, ◌<◌, List, [], ◌∷◌, ◌++◌, length, map, nat_le, nat_lt, slice_index, slice_get, Contains, Some}
 use Rattle.std.proofs.lemmas.List.Elements.{Contains-append_right}
+use Rattle.std.proofs.lemmas.Option.{same_Some}
 use Rattle.craig_spec.specs.Literal.{Clause}
 use Rattle.craig_spec.specs.Truth.{Assignment}
 use Rattle.craig_spec.specs.Chain.{Told, ToldStep, IsTold, clause_told}
@@ -44,9 +45,6 @@ split_last (s ∷ (r ∷ steps)) root e =
     let found = split_last (r ∷ steps) root e in
     (s ∷ found.0, found.1, ap (λ rs. s ∷ rs) found.2, found.3)
 
-some_clause : (a b : Clause) → Some a ≡ Some b → a ≡ b
-some_clause a b e = cc
-
 -- a normal clause that was accepted is an original of the clauses
 module _ (accepted : List (Part × Clause)) (t : Told) (originals : AreAccepted accepted t) where
   original_of : (r : ToldStep) → Contains t.steps r → IsOriginal r.origin → IsOriginalOf (parted accepted) (unforgotten r)
@@ -68,7 +66,7 @@ module _ (accepted : List (Part × Clause)) (t : Told) (originals : AreAccepted 
         last = split.1;
         ends = split.2;
         root_is = split.3;
-        empty = some_clause split.1.literals [] (sym (refuting.found split.1 is_last) ∙ ap (clause_told part) split.3 ∙ refuting.clause);
+        empty = same_Some split.1.literals [] (sym (refuting.found split.1 is_last) ∙ ap (clause_told part) split.3 ∙ refuting.clause);
       }
 
 module _ (names : List ℕ) (differ : AreDifferent names) (clauses : List PartClause) (over : AreOver (length names) (bare_clauses clauses)) (sides : SidesView) (are : AreSidesOf clauses sides) where

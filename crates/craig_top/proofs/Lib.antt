@@ -1,3 +1,4 @@
+pub mod AppendedLemmas
 pub mod ValueLemmas
 pub mod NamingLemmas
 pub mod BelowLemmas
@@ -17,6 +18,7 @@ pub mod SidesLemmas
 pub mod StoredLemmas
 pub mod UnassumingLemmas
 pub mod TranscriptLemmas
+pub mod FaultsLemmas
 pub mod PutsLemmas
 pub mod RunLemmas
 pub mod NamedChainLemmas

@@ -2,6 +2,7 @@
 use Rattle.std.proofs.Common.{◌≡◌, ◌∙◌, sym, ap, subst, refl, ℕ, zero, suc, ◌+◌, ◌<◌, Bool, true, false, cond, List, [], ◌∷◌, ◌++◌, length, map, get_or, take, decimal, All, Contains, Option, Some, None, option_map, slice_get, slice_index, arith, length-take-le, Result, Ok, Err, IfOk}
 use Rattle.std.specs.List.{range_with_len}
 use Rattle.std.proofs.lemmas.List.{length-map, take_more}
+use Rattle.std.proofs.lemmas.Option.{same_Some}
 use Rattle.craig_spec.specs.Truth.{Assignment}
 use Rattle.craig_spec.specs.Circuit.{Circuit, Output, circuit_cone, circuit_value}
 use Rattle.craig_spec.specs.Chain.{ToldStep}
@@ -84,9 +85,6 @@ mapped_some : {A B : Type 0} (f : A → B) (o : Option A) (y : B) → option_map
 mapped_some f None y e = cc
 mapped_some f (Some x) y e = (x, refl, (let same : f x ≡ y = cc in same))
 
-some_same : {A : Type 0} (x y : A) → Some x ≡ Some y → x ≡ y
-some_same x y e = cc
-
 -- the literal of a circuit has the values of the edge, and reaches variables alone that it reaches
 pub record IsOutputOf (names : List ℕ) (nodes : List Node) (e : Edge) (c : Circuit) (l : ℕ) : Type 0 where
   pub value : (s : Assignment) → circuit_value s c l ≡ edge_value (dense_assignment names s) nodes e
@@ -94,7 +92,7 @@ pub record IsOutputOf (names : List ℕ) (nodes : List Node) (e : Edge) (c : Cir
 
 -- two lists with the same images have them at each place
 same_images : {A B C : Type 0} (f : A → C) (g : B → C) (xs : List A) (ys : List B) (k : ℕ) (x : A) (y : B) → map f xs ≡ map g ys → slice_get xs k ≡ Some x → slice_get ys k ≡ Some y → f x ≡ g y
-same_images f g xs ys k x y e a b = some_same (f x) (g y) (sym (slice_get-to_map f xs k x a) ∙ ap (λ zs. slice_get zs k) e ∙ slice_get-to_map g ys k y b)
+same_images f g xs ys k x y e a b = same_Some (f x) (g y) (sym (slice_get-to_map f xs k x a) ∙ ap (λ zs. slice_get zs k) e ∙ slice_get-to_map g ys k y b)
 
 module _ (names : List ℕ) (sides : SidesView) (steps : List ToldStep) (root : ℕ) (layout : Layout) (laid : IsCutLayout names sides steps root layout) where
   -- as many outputs as edges
@@ -153,7 +151,7 @@ module _ (names : List ℕ) (sides : SidesView) (steps : List ToldStep) (root : 
         let within : cut < length laid.edges = slice_get-below laid.edges cut (constant_edge negated) is in
         let lo = slice_get-within layout.outputs cut (omega (arith, within, layout_outputs-length)) in
         let e = layout_output-at cut lo.0 lo.1 in
-        let constant : e.0 ≡ constant_edge negated = some_same e.0 (constant_edge negated) (sym e.1 ∙ is) in
+        let constant : e.0 ≡ constant_edge negated = same_Some e.0 (constant_edge negated) (sym e.1 ∙ is) in
         let literal : lo.0.1 ≡ cond negated 1 0 = laid.functions.constants cut (cut_output cut e.0) lo.0 e.2 lo.1 (ap (λ (d : Edge). d.place) constant) ∙ ap (λ (d : Edge). cond d.negated 1 0) constant in
         let p = same.constants cut lo.0 lo.1 (rw literal (small negated)) in
         slice_get-to_map (λ (o : Output). o.literal) c.outputs cut p.0 p.1 ∙ ap Some (p.2 ∙ literal)

@@ -17,7 +17,8 @@ use Rattle.craig_top.specs.Named.{bare_clauses, named_part_clause}
 use Rattle.craig_top.specs.RefutationReply.{output_literals}
 use Rattle.craig_top.specs.Sides.{AreSidesOf}
 use Rattle.craig_top.specs.Values.{AreOver}
-use Rattle.craig_top.proofs.DenseLemmas.{Agrees, clause_value-same, holds-within}
+use Rattle.craig_top.proofs.DenseLemmas.{Agrees, holds-within}
+use Rattle.craig_spec.proofs.ClauseLemmas.{clause_value-same}
 use Rattle.craig_spec.proofs.MemberLemmas.{Contains-from_image, slice_get-below}
 use Rattle.craig_top.proofs.NamedSidesLemmas.{side_a-named, side_b-named}
 use Rattle.craig_top.proofs.NamingLemmas.{occurs-named}

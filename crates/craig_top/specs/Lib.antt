@@ -1,8 +1,10 @@
+pub mod Appended
 pub mod CircuitShape
 pub mod CutLayout
 pub mod DrawnSteps
 pub mod Emptied
 pub mod Ending
+pub mod Faults
 pub mod GivenState
 pub mod Growth
 pub mod LastRefutation

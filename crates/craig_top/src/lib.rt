@@ -17,6 +17,7 @@ mod session;
 mod settings;
 mod sides;
 mod status;
+mod stored;
 mod top_call;
 mod verdict;
 

@@ -1,8 +1,9 @@
 //! The texts of replies, appended to the bytes that are put for a line.
 
-ghost use Rattle.std.specs.Prelude.{◌≡◌, ◌++◌, codes, decimal, OnOk};
+ghost use Rattle.std.specs.Prelude.{◌≡◌, ◌≤◌, ◌+◌, ◌++◌, codes, decimal, vec_len, vec_capacity, OnOk};
 ghost use Rattle.craig_aiger.specs.AsciiText.{aag_text};
 ghost use Rattle.craig_aiger.specs.RoundTrip.{ReadsAs};
+ghost use Rattle.craig_top.specs.Appended.{AppendsOnly};
 ghost use Rattle.craig_top.specs.ReplyTexts.{literal_text, literals_text, satisfiable_text, unsatisfiable_text, ok_text, refusal_text};
 
 use craig_aiger::{Form, Layout};
@@ -11,9 +12,13 @@ use craig_script::Refusal;
 use itoa::Buffer;
 use std::alloc::AllocError;
 
+/// How many bytes the reply `ok` has, with its newline.
+pub const OK_SIZE: usize = 3;
+
 /// The reply to a line that is refused: the number of the refusal.
 pub fn append_refusal(out: &mut Vec<u8>, refusal: Refusal) -> Result<(), AllocError>
-    ensures { OnOk result (out.new.items ≡ out.old.items ++ refusal_text refusal) }
+    ensures text { OnOk result (out.new.items ≡ out.old.items ++ refusal_text refusal) }
+    ensures appends { AppendsOnly out.old.items out.new.items }
 {
     out.extend_from_slice(b"e ")?;
     append_number(out, u64::from(refusal.number()))?;
@@ -22,10 +27,12 @@ pub fn append_refusal(out: &mut Vec<u8>, refusal: Refusal) -> Result<(), AllocEr
 
 /// The reply with a model, whose literals are over script variables.
 pub fn append_model(out: &mut Vec<u8>, literals: &[Lit]) -> Result<(), AllocError>
-    ensures { OnOk result (out.new.items ≡ out.old.items ++ satisfiable_text literals.now) }
+    ensures text { OnOk result (out.new.items ≡ out.old.items ++ satisfiable_text literals.now) }
+    ensures appends { AppendsOnly out.old.items out.new.items }
 {
     out.extend_from_slice(b"s SATISFIABLE\nv ")?;
-    append_literals(out, literals)
+    append_literals(out, literals)?;
+    Ok(())
 }
 
 /// The reply where there is no model: the literals of the failed assumptions, over script variables, and the text of a
@@ -37,6 +44,7 @@ pub fn append_unsatisfiable(
 ) -> Result<(), AllocError>
     ensures text { OnOk result (out.new.items ≡ out.old.items ++ unsatisfiable_text failed.now (aag_text circuit.now)) }
     ensures reads_back { OnOk result (ReadsAs circuit.now (aag_text circuit.now)) }
+    ensures appends { AppendsOnly out.old.items out.new.items }
 {
     out.extend_from_slice(b"s UNSATISFIABLE\nf ")?;
     append_literals(out, failed)?;
@@ -46,23 +54,28 @@ pub fn append_unsatisfiable(
 
 /// The line with the number of bytes that come behind it.
 fn append_size(out: &mut Vec<u8>, size: u64) -> Result<(), AllocError>
-    ensures { OnOk result (out.new.items ≡ out.old.items ++ (codes "a " ++ decimal size ++ codes "\n")) }
+    ensures text { OnOk result (out.new.items ≡ out.old.items ++ (codes "a " ++ decimal size ++ codes "\n")) }
+    ensures appends { AppendsOnly out.old.items out.new.items }
 {
     out.extend_from_slice(b"a ")?;
     append_number(out, size)?;
     out.extend_from_slice(b"\n")
 }
 
-/// The reply to a command that is carried out and has nothing else to say.
-pub fn append_ok(out: &mut Vec<u8>) -> Result<(), AllocError>
-    ensures { OnOk result (out.new.items ≡ out.old.items ++ ok_text) }
+/// The reply to a command that is carried out and has nothing else to say. There is room for its bytes.
+pub fn append_ok(out: &mut Vec<u8>)
+    requires { vec_len out.old + 3 ≤ vec_capacity out.old }
+    ensures { out.new.items ≡ out.old.items ++ ok_text }
 {
-    out.extend_from_slice(b"ok\n")
+    out.push_reserved(b'o');
+    out.push_reserved(b'k');
+    out.push_reserved(b'\n');
 }
 
 /// Literals over script variables, each with a space behind it, and the 0 that ends their line.
 fn append_literals(out: &mut Vec<u8>, literals: &[Lit]) -> Result<(), AllocError>
-    ensures { OnOk result (out.new.items ≡ out.old.items ++ literals_text literals.now) }
+    ensures text { OnOk result (out.new.items ≡ out.old.items ++ literals_text literals.now) }
+    ensures appends { AppendsOnly out.old.items out.new.items }
 {
     for literal in literals {
         append_literal(out, *literal)?;
@@ -72,7 +85,8 @@ fn append_literals(out: &mut Vec<u8>, literals: &[Lit]) -> Result<(), AllocError
 
 /// A literal over script variables and a space.
 fn append_literal(out: &mut Vec<u8>, literal: Lit) -> Result<(), AllocError>
-    ensures { OnOk result (out.new.items ≡ out.old.items ++ (literal_text literal ++ codes " ")) }
+    ensures text { OnOk result (out.new.items ≡ out.old.items ++ (literal_text literal ++ codes " ")) }
+    ensures appends { AppendsOnly out.old.items out.new.items }
 {
     if literal.negated() {
         out.extend_from_slice(b"-")?;
@@ -83,7 +97,8 @@ fn append_literal(out: &mut Vec<u8>, literal: Lit) -> Result<(), AllocError>
 
 /// A number in decimal digits.
 fn append_number(out: &mut Vec<u8>, number: u64) -> Result<(), AllocError>
-    ensures { OnOk result (out.new.items ≡ out.old.items ++ decimal number) }
+    ensures text { OnOk result (out.new.items ≡ out.old.items ++ decimal number) }
+    ensures appends { AppendsOnly out.old.items out.new.items }
 {
     let mut buffer = Buffer::new();
     out.extend_from_slice(buffer.format(number).as_bytes())

@@ -11,6 +11,7 @@ ghost use Rattle.craig_top.specs.StartingSettings.{starting_settings};
 ghost use Rattle.craig_top.specs.GivenState.{start, after};
 ghost use Rattle.craig_top.specs.Transcript.{Transcript};
 ghost use Rattle.craig_top.specs.Emptied.{emptied};
+ghost use Rattle.craig_top.specs.Faults.{CountsFaults};
 ghost use Rattle.craig_top.specs.Ending.{Promise, EndsDone};
 ghost use Rattle.craig_top.specs.StopStatus.{status_of};
 ghost use Rattle.craig_top.specs.declared.settings.Settings.{Settings};
@@ -86,8 +87,7 @@ impl Run {
         ensures session { OnOk result (self.new.session.state ≡ after self.old.session.state self.old.lines.ready) }
         ensures put { OnOk result (Puts (W.contents sink.old) (W.contents sink.new) (Transcript self.old.session.state self.old.lines.ready)) }
         ensures stopped { IfErr result (λ stop. Stopped stop self.old.session.state self.old.lines.ready (W.contents sink.old) (W.contents sink.new)) }
-        ensures fault { result ≡ Err Stop.WriteFault → Rose (W.faults sink.old) (W.faults sink.new) }
-        ensures count { W.faults sink.old ≤ W.faults sink.new }
+        ensures write_fault { CountsFaults (result ≡ Err Stop.WriteFault) (W.faults sink.old) (W.faults sink.new) }
     {
         while let Some(line) = self.lines.next() {
             self.reply.clear();
@@ -104,8 +104,7 @@ impl Run {
         ensures session { OnOk result (self.new.session.state ≡ after self.old.session.state (fed self.old.lines bytes.now).ready) }
         ensures put { OnOk result (Puts (W.contents sink.old) (W.contents sink.new) (Transcript self.old.session.state (fed self.old.lines bytes.now).ready)) }
         ensures stopped { IfErr result (λ stop. Stopped stop self.old.session.state (fed self.old.lines bytes.now).ready (W.contents sink.old) (W.contents sink.new)) }
-        ensures fault { result ≡ Err Stop.WriteFault → Rose (W.faults sink.old) (W.faults sink.new) }
-        ensures count { W.faults sink.old ≤ W.faults sink.new }
+        ensures write_fault { CountsFaults (result ≡ Err Stop.WriteFault) (W.faults sink.old) (W.faults sink.new) }
     {
         self.lines.feed(bytes)?;
         self.answer_ready(sink)
@@ -115,14 +114,13 @@ impl Run {
     fn end<W: Sink>(&mut self, sink: &mut W) -> Result<(), Stop>
         ensures put { OnOk result (Puts (W.contents sink.old) (W.contents sink.new) (Transcript self.old.session.state (ended self.old.lines).ready)) }
         ensures stopped { IfErr result (λ stop. Stopped stop self.old.session.state (ended self.old.lines).ready (W.contents sink.old) (W.contents sink.new)) }
-        ensures fault { result ≡ Err Stop.WriteFault → Rose (W.faults sink.old) (W.faults sink.new) }
-        ensures count { W.faults sink.old ≤ W.faults sink.new }
+        ensures write_fault { CountsFaults (result ≡ Err Stop.WriteFault) (W.faults sink.old) (W.faults sink.new) }
     {
         self.lines.finish()?;
         self.answer_ready(sink)
     }
 
-    /// Reads once, and answers the lines that are whole then, at the end of the input also a last one without its
+    /// Reads once, at most 65536 bytes, and answers the lines that are whole then, at the end of the input also a last one without its
     /// newline. Answers how many bytes were read, 0 at the end, or the status of a run that stops.
     fn step<R: Source, W: Sink>(
         &mut self,
@@ -131,6 +129,7 @@ impl Run {
         piece: &mut [u8],
     ) -> Result<usize, Status>
         requires piece { 0 < length piece.old }
+        requires size { length piece.old ≤ 65536 }
         requires open { self.old.lines.finished ≡ false }
         ensures bound { IfOk result (λ count. count ≤ length piece.new) }
         ensures open { IfOk result (λ count. 0 < count → self.new.lines.finished ≡ false) }
@@ -138,11 +137,9 @@ impl Run {
             → Progress settings left_before held_before (R.remaining source.old) (W.contents sink.old) self.old.session.state self.old.lines taken
             → length taken + length piece.old ≤ bound
             → StepLeaves settings bound left_before held_before (R.remaining source.new) (W.contents sink.new) self.new.session.state self.new.lines taken piece.new result }
-        ensures read_fault { result ≡ Err Status.ReadFault → Rose (R.faults source.old) (R.faults source.new) }
-        ensures write_fault { result ≡ Err Status.WriteFault → Rose (W.faults sink.old) (W.faults sink.new) }
         ensures no_other { IfErr result IsStop }
-        ensures read_count { R.faults source.old ≤ R.faults source.new }
-        ensures write_count { W.faults sink.old ≤ W.faults sink.new }
+        ensures read_fault { CountsFaults (result ≡ Err Status.ReadFault) (R.faults source.old) (R.faults source.new) }
+        ensures write_fault { CountsFaults (result ≡ Err Status.WriteFault) (W.faults sink.old) (W.faults sink.new) }
     {
         match source.read(piece) {
             Err(_) => Err(Status::ReadFault),
@@ -167,16 +164,15 @@ impl Run {
         bound: u64,
     ) -> Status
         requires buffer { 0 < length buffer.old }
+        requires size { length buffer.old ≤ 65536 }
         requires bound { 0 < bound }
         requires open { self.old.lines.finished ≡ false }
         ensures promise { (settings : Settings) (left held : Option (List ℕ))
             → Progress settings left held (R.remaining source.old) (W.contents sink.old) self.old.session.state self.old.lines []
             → Promise settings bound result left (R.remaining source.new) held (W.contents sink.new) }
-        ensures read_fault { result ≡ Status.ReadFault → Rose (R.faults source.old) (R.faults source.new) }
-        ensures write_fault { result ≡ Status.WriteFault → Rose (W.faults sink.old) (W.faults sink.new) }
         ensures no_usage { result ≢ Status.Usage }
-        ensures read_count { R.faults source.old ≤ R.faults source.new }
-        ensures write_count { W.faults sink.old ≤ W.faults sink.new }
+        ensures read_fault { CountsFaults (result ≡ Status.ReadFault) (R.faults source.old) (R.faults source.new) }
+        ensures write_fault { CountsFaults (result ≡ Status.WriteFault) (W.faults sink.old) (W.faults sink.new) }
     {
         let mut left = bound;
         while left > 0 {
@@ -207,12 +203,10 @@ pub fn run_script<R: Source, W: Sink>(
     requires bound { 0 < bound }
     requires settings { settings ≡ starting_settings }
     ensures promise { Promise settings bound result (R.remaining source.old) (R.remaining source.new) (W.contents sink.old) (W.contents sink.new) }
-    ensures read_fault { result ≡ Status.ReadFault → Rose (R.faults source.old) (R.faults source.new) }
-    ensures write_fault { result ≡ Status.WriteFault → Rose (W.faults sink.old) (W.faults sink.new) }
     ensures no_usage { result ≢ Status.Usage }
+    ensures read_fault { CountsFaults (result ≡ Status.ReadFault) (R.faults source.old) (R.faults source.new) }
+    ensures write_fault { CountsFaults (result ≡ Status.WriteFault) (W.faults sink.old) (W.faults sink.new) }
     ensures complete { EndsDone bound result (R.remaining source.old) (Rose (R.faults source.old) (R.faults source.new)) (Rose (W.faults sink.old) (W.faults sink.new)) }
-    ensures read_count { R.faults source.old ≤ R.faults source.new }
-    ensures write_count { W.faults sink.old ≤ W.faults sink.new }
 {
     let Ok(mut buffer) = zeroed(alloc, READ_SIZE) else {
         return Status::NoMemory;

@@ -1,8 +1,9 @@
 //! The top call: the words of the program, and then a run.
 
-ghost use Rattle.std.specs.Prelude.{◌≡◌, ◌<◌, ◌≤◌, ◌↔◌, length};
+ghost use Rattle.std.specs.Prelude.{◌≡◌, ◌<◌, ◌↔◌, length};
 ghost use Rattle.craig_io.specs.Faults.{Rose};
 ghost use Rattle.craig_top.specs.StartingSettings.{starting_settings};
+ghost use Rattle.craig_top.specs.Faults.{CountsFaults};
 ghost use Rattle.craig_top.specs.Ending.{Promise, EndsDone};
 
 use crate::run::run_script;
@@ -25,16 +26,14 @@ pub fn craig_top<R: Source, W: Sink>(
     sink: &mut W,
 ) -> Status
     // The transcript theorem.
-    ensures promise { Promise starting_settings SCRIPT_BOUND result (R.remaining source.old) (R.remaining source.new) (W.contents sink.old) (W.contents sink.new) }
+    ensures promise { Promise starting_settings 4294967296 result (R.remaining source.old) (R.remaining source.new) (W.contents sink.old) (W.contents sink.new) }
 
     // The causes of the other statuses.
     ensures usage { (result ≡ Status.Usage) ↔ (0 < length words.now) }
     ensures untouched { result ≡ Status.Usage → (source.new ≡ source.old) × (sink.new ≡ sink.old) }
-    ensures read_fault { result ≡ Status.ReadFault → Rose (R.faults source.old) (R.faults source.new) }
-    ensures write_fault { result ≡ Status.WriteFault → Rose (W.faults sink.old) (W.faults sink.new) }
-    ensures complete { length words.now ≡ 0 → EndsDone SCRIPT_BOUND result (R.remaining source.old) (Rose (R.faults source.old) (R.faults source.new)) (Rose (W.faults sink.old) (W.faults sink.new)) }
-    ensures read_count { R.faults source.old ≤ R.faults source.new }
-    ensures write_count { W.faults sink.old ≤ W.faults sink.new }
+    ensures read_fault { CountsFaults (result ≡ Status.ReadFault) (R.faults source.old) (R.faults source.new) }
+    ensures write_fault { CountsFaults (result ≡ Status.WriteFault) (W.faults sink.old) (W.faults sink.new) }
+    ensures complete { length words.now ≡ 0 → EndsDone 4294967296 result (R.remaining source.old) (Rose (R.faults source.old) (R.faults source.new)) (Rose (W.faults sink.old) (W.faults sink.new)) }
 {
     if !words.is_empty() {
         return Status::Usage;

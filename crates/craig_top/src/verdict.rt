@@ -6,6 +6,7 @@ ghost use Rattle.craig_spec.specs.Literal.{Literal};
 ghost use Rattle.craig_base.specs.Names.{AreNames};
 ghost use Rattle.craig_solver.specs.Answer.{IsAnswer, root_of_answer};
 ghost use Rattle.craig_solver.specs.Told.{IsToldOf, TellsAnswer};
+ghost use Rattle.craig_top.specs.Appended.{AppendsOnly};
 ghost use Rattle.craig_top.specs.LastRefutation.{IsSolveReplyBy};
 ghost use Rattle.craig_top.specs.ModelReply.{IsModelReply};
 ghost use Rattle.craig_top.specs.Naming.{named_clause};
@@ -40,8 +41,9 @@ pub fn append_verdict(
     requires told { IsToldOf clauses.now store.now.told }
     requires answer { IsAnswer (map (λ c. c.1) clauses.now) (length names.now) [] None answer.now }
     requires refuted { TellsAnswer clauses.now [] answer.now store.now.told }
-    ensures { OnOk result ((text : List ℕ) × IsSolveReplyBy names.now store.now.told.steps (root_of_answer answer.now) (stored_state sides.now.parts names.now clauses.now) [] text
+    ensures reply { OnOk result ((text : List ℕ) × IsSolveReplyBy names.now store.now.told.steps (root_of_answer answer.now) (stored_state sides.now.parts names.now clauses.now) [] text
         × (out.new.items ≡ out.old.items ++ text)) }
+    ensures appends { AppendsOnly out.old.items out.new.items }
 {
     craig_base::laws::values_are_an_assignment();
     craig_proof::laws::steps_are_found();
@@ -51,7 +53,7 @@ pub fn append_verdict(
             append_refutation(alloc, names, clauses, sides, store, *root, out)
         }
         // without a limit none is met
-        Answer::Limit(_) => Err(AllocError),
+        Answer::Limit(_) => unreachable!(),
     }
 }
 
@@ -66,8 +68,9 @@ fn append_values(
     requires over { AreOver (length names.now) (map (λ c. c.1) clauses.now) }
     requires values { length values.now ≡ length names.now }
     requires model { all_hold values.now (map (λ c. c.1) clauses.now) ≡ true }
-    ensures { OnOk result ((literals : List Literal) × IsModelReply (map (named_clause names.now) (map (λ c. c.1) clauses.now)) literals
+    ensures model { OnOk result ((literals : List Literal) × IsModelReply (map (named_clause names.now) (map (λ c. c.1) clauses.now)) literals
         × (out.new.items ≡ out.old.items ++ satisfiable_text literals)) }
+    ensures appends { AppendsOnly out.old.items out.new.items }
 {
     let named = named_variables(alloc, clauses, names.len() as usize)?;
     let mut literals = model_literals(alloc, names, &named, values)?;

@@ -27,8 +27,8 @@ pub cut_circuit-requires-clause-named : goal.cut_circuit-requires-clause-named
 cut_circuit-requires-clause-named c =
     shared_named (parted c.args.clauses.now) c.args.sides.now c.requires.sides _ (over_parted c.args.names.now c.args.clauses.now c.requires.stored)
 
-pub returns : goal.returns
-returns c =
+pub returns-clause-reply : goal.returns-clause-reply
+returns-clause-reply c =
     let told = c.requires.told.stand in
     let t = c.args.store.now.told in
     let root = c.args.root.0 in

@@ -15,4 +15,4 @@ returns-clause-promise g c = c.read_to_end.ensures.promise c.args.settings _ _ (
 pub returns-clause-complete : goal.returns-clause-complete
 returns-clause-complete g c =
     EndsDone-from c.args.settings c.args.bound _ _ _ _ _ _ _ (c.read_to_end.ensures.promise c.args.settings _ _ (Progress-start c.args.settings _ _ _ _ (ap (λ (v : SessionView). v.state) c.new.ensures) c.new-2.ensures))
-    c.read_to_end.ensures.read_fault c.read_to_end.ensures.write_fault c.read_to_end.ensures.no_usage
+    c.read_to_end.ensures.read_fault.fault c.read_to_end.ensures.write_fault.fault c.read_to_end.ensures.no_usage

@@ -8,8 +8,8 @@ use Rattle.craig_top.proofs.ModelLemmas.{model_reply}
 use Rattle.craig_top.proofs.ReplyLemmas.{model-appended}
 use Rattle.craig_top.proofs.verdict.append_values.Goals as goal
 
-pub returns : goal.returns
-returns c =
+pub returns-clause-model : goal.returns-clause-model
+returns-clause-model c =
     let made : c.deref_mut.result.now ≡ model_below c.args.names.now c.in_ok-named.named.items c.args.values.now (length c.args.names.now) =
     c.deref_mut.ensures.value ∙ c.in_ok-literals.ensures ∙ (rw c.deref.ensures.value refl) in
     let permuted : IsPermutation (model_below c.args.names.now c.in_ok-named.named.items c.args.values.now (length c.args.names.now)) c.sort_by_variable.new.literals =
@@ -19,4 +19,4 @@ returns c =
     let reply : IsModelReply (map (named_clause c.args.names.now) (map (λ d. d.1) c.args.clauses.now)) c.sort_by_variable.new.literals =
     model_reply c.args.names.now c.in_ok-named.named.items c.args.values.now (map (λ d. d.1) c.args.clauses.now)
     c.len.ensures.are_names.distinct c.in_ok-named.ensures.named c.requires.over c.sort_by_variable.new.literals permuted c.sort_by_variable.ensures.sorted c.requires.model in
-    model-appended c.append_model.result (map (named_clause c.args.names.now) (map (λ d. d.1) c.args.clauses.now)) c.deref-2.result.now _ _ (rw stays reply) c.append_model.ensures
+    model-appended c.append_model.result (map (named_clause c.args.names.now) (map (λ d. d.1) c.args.clauses.now)) c.deref-2.result.now _ _ (rw stays reply) c.append_model.ensures.text

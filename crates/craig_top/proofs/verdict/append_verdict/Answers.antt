@@ -4,10 +4,10 @@ use Rattle.craig_top.specs.Stored.{stored_state}
 use Rattle.craig_top.proofs.ReplyLemmas.{verdict_of_model, verdict_of_refutation}
 use Rattle.craig_top.proofs.verdict.append_verdict.Goals as goal
 
-pub returns-in-Model : goal.returns-in-Model
-returns-in-Model c =
-    verdict_of_model c.append_values.result c.args.sides.now.parts c.args.names.now c.args.store.now.told.steps (root_of_answer c.args.answer.now) c.args.clauses.now _ _ c.append_values.ensures
+pub returns-in-Model-clause-reply : goal.returns-in-Model-clause-reply
+returns-in-Model-clause-reply c =
+    verdict_of_model c.append_values.result c.args.sides.now.parts c.args.names.now c.args.store.now.told.steps (root_of_answer c.args.answer.now) c.args.clauses.now _ _ c.append_values.ensures.model
 
-pub returns-in-Failed : goal.returns-in-Failed
-returns-in-Failed c =
-    rw c.in-Failed.is (verdict_of_refutation c.append_refutation.result c.args.names.now c.args.store.now.told.steps (Some c.in-Failed.root.0) (stored_state c.args.sides.now.parts c.args.names.now c.args.clauses.now) _ _ c.append_refutation.ensures)
+pub returns-in-Failed-clause-reply : goal.returns-in-Failed-clause-reply
+returns-in-Failed-clause-reply c =
+    rw c.in-Failed.is (verdict_of_refutation c.append_refutation.result c.args.names.now c.args.store.now.told.steps (Some c.in-Failed.root.0) (stored_state c.args.sides.now.parts c.args.names.now c.args.clauses.now) _ _ c.append_refutation.ensures.reply)

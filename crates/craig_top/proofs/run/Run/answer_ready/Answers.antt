@@ -41,7 +41,7 @@ loop-line-preserved g c =
           ∙ sym (after-append c.args.self.now.session.state c.loop-line.invariant.answered (c.in-Some.line ∷ []));
       put = Puts-push _ _ _ c.args.self.now.session.state c.loop-line.invariant.answered c.in-Some.line reply.0 c.deref.result.now c.loop-line.invariant.put allowed
           (whole_reply _ _ _ _ c.deref.ensures.value reply.2 c.clear.ensures.items) c.in_ok-put_all.ensures.written;
-      count = omega (arith, c.loop-line.invariant.count, c.in_ok-put_all.ensures.count);
+      quiet = c.in_ok-put_all.ensures.quiet ∙ c.loop-line.invariant.quiet;
     }
 
 pub loop-line-preserved-in_ok-put_all : goal.loop-line-preserved-in_ok-put_all
@@ -58,5 +58,5 @@ loop-line-preserved-in_ok-put_all g c =
           ∙ sym (after-append c.args.self.now.session.state c.loop-line.invariant.answered (c.in-Some.line ∷ []));
       put = Puts-push _ _ _ c.args.self.now.session.state c.loop-line.invariant.answered c.in-Some.line reply.0 c.deref.result.now c.loop-line.invariant.put allowed
           (whole_reply _ _ _ _ c.deref.ensures.value reply.2 c.clear.ensures.items) c.in_ok-put_all.ensures.written;
-      count = omega (arith, c.loop-line.invariant.count, c.in_ok-put_all.ensures.count);
+      quiet = c.in_ok-put_all.ensures.quiet ∙ c.loop-line.invariant.quiet;
     }

@@ -1,4 +1,4 @@
-use Rattle.std.proofs.Common.{◌≡◌, ◌≤◌, ◌++◌, List, length}
+use Rattle.std.proofs.Common.{◌≡◌, ◌++◌, List, length}
 use Rattle.craig_script.specs.declared.line.Line.{Line}
 use Rattle.craig_top.specs.GivenState.{after}
 use Rattle.craig_top.specs.Transcript.{Transcript}
@@ -13,7 +13,7 @@ invariant-loop-line g l = record {
   lines : l.self.lines ≡ record l.fn.self.lines { ready = l.self.lines.ready };
   session : l.self.session.state ≡ after l.fn.self.session.state answered;
   put : Puts (g.W.Sink.contents l.fn.sink) (g.W.Sink.contents l.sink) (Transcript l.fn.self.session.state answered);
-  count : g.W.Sink.faults l.fn.sink ≤ g.W.Sink.faults l.sink;
+  quiet : g.W.Sink.faults l.sink ≡ g.W.Sink.faults l.fn.sink;
 }
 
 abbrev pub decreases-loop-line : goal.decreases-loop-line

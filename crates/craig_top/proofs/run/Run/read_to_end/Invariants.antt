@@ -11,8 +11,9 @@ invariant-loop-left g l = record {
   open_ended : l.self.lines.finished ≡ false;
   progress : (settings : Settings) (left held : Option (List ℕ)) → Progress settings left held (g.R.Source.remaining l.fn.source) (g.W.Sink.contents l.fn.sink) l.fn.self.session.state l.fn.self.lines []
       → Progress settings left held (g.R.Source.remaining l.source) (g.W.Sink.contents l.sink) l.self.session.state l.self.lines taken;
-  read_count : g.R.Source.faults l.fn.source ≤ g.R.Source.faults l.source;
-  write_count : g.W.Sink.faults l.fn.sink ≤ g.W.Sink.faults l.sink;
+  read_quiet : g.R.Source.faults l.source ≡ g.R.Source.faults l.fn.source;
+  write_quiet : g.W.Sink.faults l.sink ≡ g.W.Sink.faults l.fn.sink;
+  size : length l.buffer ≤ 65536;
 }
 
 abbrev pub decreases-loop-left : goal.decreases-loop-left

@@ -1,5 +1,6 @@
 -- What the edges of constants, inputs and conjunctions compute and reach.
 use Rattle.std.proofs.Common.{◌≡◌, ◌≢◌, ◌⊎◌, inl, inr, ℕ, ◌<◌, ◌≤◌, Bool, true, false, not, cond, ◌&&◌, eqb, ltb, List, [], length, get_or, Contains, None, Some, refl, sym, ap, ◌∙◌, subst, arith, eqb-true}
+use Rattle.std.proofs.Math.Bool.{and_comm}
 use borrow.Author.Tests.{ltb-true}
 use Rattle.std.proofs.lemmas.Bool.{eqb-false, ltb-false}
 use Rattle.std.proofs.lemmas.List.Elements.{Contains-append_cases}
@@ -38,14 +39,8 @@ pub cone-IsShared : (old new : List Node) (node : Node) (e : Edge) → IsAig new
 cone-IsShared old new node e arena h = cone-node new e.place node arena h.place
 
 -- the node of a conjunction, whichever operand is first
-and-comm : (a b : Bool) → (a && b) ≡ (b && a)
-and-comm true true = refl
-and-comm true false = refl
-and-comm false true = refl
-and-comm false false = refl
-
 node_value-ordered : (s : Assignment) (nodes : List Node) (left right : Edge) (t : Bool) → node_value s (values s nodes) (cond t (Gate right left) (Gate left right)) ≡ (edge_value s nodes left && edge_value s nodes right)
-node_value-ordered s nodes left right true = and-comm (edge_value s nodes right) (edge_value s nodes left)
+node_value-ordered s nodes left right true = and_comm (edge_value s nodes right) (edge_value s nodes left)
 node_value-ordered s nodes left right false = refl
 
 node_cone-ordered : (nodes : List Node) (left right : Edge) (t : Bool) (x : ℕ) → Contains (node_cone (cones nodes) (cond t (Gate right left) (Gate left right))) x → Contains (cone nodes left) x ⊎ Contains (cone nodes right) x
@@ -96,14 +91,6 @@ pub FoldedTo-folded : (left right f : Edge) → folded left right ≡ Some f →
 FoldedTo-folded left right f h =
     folded_to left right f (eqb left.place 0) (eqb right.place 0) (eqb left.place right.place) (cond left.negated right.negated (not right.negated)) h
 
-and-true : (b : Bool) → b ≡ (b && true)
-and-true true = refl
-and-true false = refl
-
-and-false : (b : Bool) → false ≡ (b && false)
-and-false true = refl
-and-false false = refl
-
 -- the value of an edge that is folded as one operand has the value b: the other one, or false
 value_chosen : (s : Assignment) (nodes : List Node) (b : Bool) (other f : Edge) → IsAig nodes → Some (cond b other (constant_edge false)) ≡ Some f → edge_value s nodes f ≡ (b && edge_value s nodes other)
 value_chosen s nodes true other f arena h = let e : f ≡ other = cc in ap (edge_value s nodes) e
@@ -132,7 +119,7 @@ value_folded s nodes left right f true u v arena t_is u_is v_is h =
     value_chosen s nodes left.negated right f arena h ∙ ap (λ b. b && edge_value s nodes right) (sym l)
 value_folded s nodes left right f false true v arena t_is u_is v_is h =
     let r : edge_value s nodes right ≡ right.negated = ap (edge_value s nodes) (edge_is right 0 right.negated (eqb-true right.place 0 u_is) refl) ∙ edge_value-constant s nodes right.negated arena in
-    value_chosen s nodes right.negated left f arena h ∙ and-comm right.negated (edge_value s nodes left) ∙ ap (λ b. edge_value s nodes left && b) (sym r)
+    value_chosen s nodes right.negated left f arena h ∙ and_comm right.negated (edge_value s nodes left) ∙ ap (λ b. edge_value s nodes left && b) (sym r)
 value_folded s nodes left right f false false true arena t_is u_is v_is h =
     let at : left.place ≡ right.place = eqb-true left.place right.place v_is in
     let r : right ≡ record { place = left.place; negated = right.negated } = edge_is right left.place right.negated (sym at) refl in

@@ -1,7 +1,6 @@
 -- Laws of the new variables of gates.
-use Rattle.std.proofs.Common.{◌≡◌, ◌≢◌, ℕ, suc, ◌+◌, ◌<◌, ◌≤◌, true, eqb, List, ◌∷◌, length, drop, set, get_or, replicate, ◌⊎◌, inl, inr, ⊎_elim, ◌∙◌, ap, arith, ne_eqb}
+use Rattle.std.proofs.Common.{◌≡◌, ℕ, suc, ◌+◌, ◌<◌, ◌≤◌, true, eqb, List, ◌∷◌, length, drop, set, get_or, replicate, inl, inr, ◌∙◌, ap, arith, ne_eqb}
 use Rattle.craig_aiger_read.proofs.SettleLemmas.{same-place}
-use Rattle.std.proofs.lemmas.Bool.{cases_lt}
 use Rattle.std.proofs.lemmas.Bool.Decides.{nat_tests}
 use Rattle.std.proofs.lemmas.List.{drop_all, drop_more, get_or-replicate, get_or-set_other, get_or-set_same, length-replicate, length-set}
 use Rattle.craig_spec.specs.AigerReading.{place_in}

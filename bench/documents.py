@@ -3,12 +3,13 @@
 
     bench/documents.py
 
-Two tests. Each word in backticks in README.md and docs/ that looks like a name of the code stands somewhere in the code.
-And each definition and record that the headline reaches, the contract of `craig_top` in its words and in those that
-these are made of, is named in backticks in the first part of docs/DEFINITIONS.md. Prints what is missing, and ends with
-status 1 then.
+Three tests. Each word in backticks in README.md and docs/ that looks like a name of the code stands somewhere in the
+code. Each call of docs/PROVED.md is a function of the crate whose heading it stands under, and each clause one of the
+calls of its row. And each definition and record that the headline reaches, the contract of `craig_top` in its words and
+in those that these are made of, is named in backticks in the first part of docs/DEFINITIONS.md. Prints what is missing,
+and ends with status 1 then.
 
-Neither test reads what a document says of a name: that is for a reader.
+No test reads what a document says of a name: that is for a reader.
 """
 
 import os
@@ -19,10 +20,13 @@ ROOT = os.path.dirname(os.path.dirname(os.path.abspath(__file__)))
 TOP_CALL = "crates/craig_top/src/top_call.rt"
 DEFINITIONS = "docs/DEFINITIONS.md"
 FIRST_PART = "# What the headline reaches"
+CLAIMS = "docs/PROVED.md"
 
 NAME = re.compile(r"[A-Za-z_][\w]*(?:[-'][\w]+)*")
 QUOTED = re.compile(r"`([^`\n]+)`")
 DEFINED = re.compile(r"(?:abbrev |unfoldable )*pub (?:abbrev )?(?:record |data )?([^\s:(]+)")
+FUNCTION = re.compile(r"\s*(?:pub(?:\(crate\))? )?(?:final )?fn (\w+)")
+CLAUSE = re.compile(r"\s*(?:(?:ensures|requires) (\w+) \{|ghost (\w+) = )")
 IMPORT = re.compile(r"(?:ghost )?use Rattle\.(craig\w*)\.specs\.(\w+)(?:\.\{([^}]*)\}| as (\w+))?")
 
 
@@ -71,6 +75,62 @@ def unknown_words():
     for path in documents():
         for word in sorted(set(quoted_names(read(path))) - known):
             yield "%s: `%s` is nowhere in the code" % (path, word)
+
+
+# The clauses of the claims.
+
+def contracts(crate):
+    """The names of the clauses of each function of a crate."""
+    found = {}
+    for path in files("crates/%s/src" % crate, ".rt"):
+        name = None
+        for line in read(path).splitlines():
+            function = FUNCTION.match(line)
+            if function:
+                name = function.group(1)
+                found.setdefault(name, set())
+            clause = CLAUSE.match(line)
+            if clause and (name or clause.group(2)):
+                found.setdefault(name, set()).add(clause.group(1) or clause.group(2))
+    return found
+
+
+def rows(text):
+    """The rows of the claims: the crate of their heading, the calls and the clauses that they name.
+
+    What stands behind a colon are fields of a clause, or definitions in it.
+    """
+    crate = None
+    for line in text.splitlines():
+        if line.startswith("## "):
+            crate = line[3:].strip()
+        if crate and line.startswith("| ") and not line.startswith("| Claim"):
+            _, calls, clauses = line.strip("|").split(" | ")
+            clauses, _, fields = clauses.partition(":")
+            yield crate, QUOTED.findall(calls), QUOTED.findall(clauses), QUOTED.findall(fields)
+
+
+def unknown_clauses():
+    """The calls that are no functions of their crate, the clauses that their contracts lack, and unknown fields."""
+    for crate, calls, clauses, fields in rows(read(CLAIMS)):
+        known = contracts(crate)
+        names = [call.split("::")[-1] for call in calls]
+        theirs = set().union(*(known.get(name, set()) for name in names)) or set().union(set(), *known.values())
+        for name in names:
+            if name not in known and not name[0].isupper():
+                yield "%s: `%s` is no call of %s" % (CLAIMS, name, crate)
+        for clause in clauses:
+            if clause not in theirs:
+                yield "%s: `%s` is no clause of %s" % (CLAIMS, clause, ", ".join(names) or crate)
+        for field in fields:
+            if not is_field(field):
+                yield "%s: `%s` is no field and no definition" % (CLAIMS, field)
+
+
+def is_field(word):
+    """Whether the word is a field of a record, or a definition."""
+    named = re.compile(r"\bpub (?:record |abbrev )?%s\b" % re.escape(word))
+    return any(named.search(read(path)) for path in files("crates", ".antt"))
 
 
 # What the headline reaches.
@@ -150,7 +210,7 @@ def unsaid_definitions():
 
 
 def main():
-    found = list(unknown_words()) + list(unsaid_definitions())
+    found = list(unknown_words()) + list(unknown_clauses()) + list(unsaid_definitions())
     for fault in found:
         print(fault)
     sys.exit(1 if found else 0)

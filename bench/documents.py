@@ -186,8 +186,9 @@ def resolve(found, module, text):
 def reached(found):
     """The definitions that the contract of the top call names, and those that these name, and so on."""
     text = read(TOP_CALL)
-    top = Module("\n".join(line.replace("ghost use", "use") for line in text.splitlines() if line.startswith("ghost use")))
-    waiting = list(resolve(found, top, "\n".join(line for line in text.splitlines() if "ensures" in line)))
+    lines = text.splitlines()
+    top = Module("\n".join(line[len("ghost "):] for line in lines if line.startswith("ghost use")))
+    waiting = list(resolve(found, top, "\n".join(line for line in lines if "ensures" in line)))
     seen = set()
     while waiting:
         place, word = waiting.pop()

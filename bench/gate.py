@@ -228,8 +228,8 @@ class Watched:
 
     def line(self):
         """The line of the process."""
-        kind = "tests" if self.tests else "code"
-        return "%s %s %s %s %.1f %s" % (clock(self.first), clock(self.last), self.crate, kind, self.seconds, self.folder)
+        times = clock(self.first) + " " + clock(self.last)
+        return "%s %s %s %.1f %s" % (times, self.crate, "tests" if self.tests else "code", self.seconds, self.folder)
 
 
 def look(seen):
@@ -361,7 +361,13 @@ def functions(paths, over):
         print("| %d | `%s` |" % (spent, name))
     print()
     print("%d of %d took %d seconds or more, and %s of %s minutes." % (
-        len(long), len(found), over, minutes(sum(s for s, _ in long)), minutes(sum(s for s, _ in found))))
+        len(long), len(found), over, minutes(total(long)), minutes(total(found))))
+    print("What stands in a module `tests` took %s minutes." % minutes(total(c for c in found if "tests::" in c[1])))
+
+
+def total(found):
+    """The seconds of all of them."""
+    return sum(spent for spent, _ in found)
 
 
 def costs(lines):
@@ -404,7 +410,7 @@ def report(args):
         unit = "Minutes of one processor in the first columns, and minutes of wall time from the start in the others."
     else:
         spent, edits = shares(gate, below, args.places), {}
-        unit = "Shares of %d places in minutes of wall time, and no measure of any part, in the first columns." % args.places
+        unit = "Shares of %d places in minutes of wall time, no measure of any part, in the first columns." % args.places
     print_table(gate, below, spent, unit)
     print_rest(gate)
     print_edits(edits)

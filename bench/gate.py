@@ -19,9 +19,10 @@ its tests and edits from the end of its own. The shares have the right sum. What
 Processor time is measured beside the gate. `--watch` looks each second at the processes of the prover and prints a line
 for each that ended: when it was first and last seen, the crate, whether it had the tests, its processor seconds, and
 the folder that it ran in. It is ended by a signal. Nothing else may prove on the machine meanwhile. A process in a
-folder `rt-edit-..`, or without the tests after the crate was proved, counts as an edit, any other one with the tests
-as the tests' proof, and the rest as the proof. With such a FILE the table has processor minutes. They lack what a
-process did in its last second, and the compiler that builds tests and programs once they are proved.
+folder `rt-edit-..` counts as an edit, and so does one without the tests that began after the crate was proved and ran
+in a folder of another name than the crate's. Any other counts as the tests' proof where it had the tests, and else as
+the proof. With such a FILE the table has processor minutes. They lack what a process did in its last second, and other
+programs than the prover, as the compiler that builds what was proved.
 
 What a function costs is told by a check of one crate that prints each function as it is done. `--functions` reads such
 logs, and prints what took longer than SECONDS, 20 if not said, by wall time from one function's line to the next:
@@ -278,12 +279,13 @@ def measured(lines, gate):
 
 def part_kind(crate, kind, first, folder, gate):
     """What a process was at work on: an edit, the tests or the proof."""
-    if os.path.basename(folder.strip()).startswith("rt-edit"):
+    name = os.path.basename(folder.strip())
+    if name.startswith("rt-edit"):
         return "edits"
     if kind == "tests":
         return "tests"
     end = gate.ends.get((crate, "proof"))
-    return "edits" if end is not None and first > end % DAY else "proof"
+    return "edits" if name != crate and end is not None and first > end % DAY else "proof"
 
 
 # What is printed.

@@ -14,7 +14,7 @@ of a crate's proof, of its tests' proof and of its edits stand together and have
 tells in which minute each of them ended and not how long it took: they may have waited, and they shared the processors.
 What is printed from a log alone is the end, and a share: the places at work, N of them, 4 if not said, are divided at
 each moment among all that could have been at work then, a crate's proof from the end of the proofs that it stands on,
-its tests and edits from the end of its own. The shares have the right sum. What waits long gets too much.
+its tests and edits from the end of its own. What waited long gets too much of it.
 
 Processor time is measured beside the gate. `--watch` looks each second at the processes of the prover and prints a line
 for each that ended: when it was first and last seen, the crate, whether it had the tests, its processor seconds, and

@@ -1,19 +1,16 @@
 -- A chain that grows at its end.
-use Rattle.std.proofs.Common.{◌≡◌, ◌≢◌, ◌⊎◌, ◌↔◌, inl, inr, ℕ, suc, zero, ◌<◌, Bool, true, false, eqb, List, [], ◌∷◌, ◌++◌, length, take, Contains, Option, Some, refl, sym, ap, subst, ◌∙◌, arith, eqb-true}
-use Rattle.std.proofs.lemmas.Bool.{eqb-false}
+use Rattle.std.proofs.Common.{◌≡◌, ◌⊎◌, ◌↔◌, inl, inr, ℕ, ◌<◌, List, [], ◌∷◌, ◌++◌, length, take, Contains, Option, Some, sym, ap, subst, ◌∙◌, arith}
 use Rattle.std.proofs.lemmas.List.Elements.{Contains-append_left, Contains-append_right, Contains-append_cases}
 use Rattle.craig_spec.specs.Literal.{Literal, Clause, negation}
 use Rattle.craig_spec.specs.Chain.{ChainStep, SameLiterals, IsResolvent, IsChain}
+use Rattle.craig_spec.proofs.MemberLemmas.{Contains-cases, Contains-front, Contains-later}
+use Rattle.craig_spec.proofs.LiteralLemmas.{negation_twice, same_or_not}
+use Rattle.craig_spec.proofs.ClauseLemmas.{SameLiterals-refl, SameLiterals-sym}
 use Rattle.craig_watch.specs.Trail.{Trail, IsFalse, AreDistinct}
 use Rattle.craig_watch.specs.Held.{Forces}
+use Rattle.craig_watch.proofs.PlacesLemmas.{IsFalse-take}
 use Rattle.craig_analyze.specs.Resolvent.{at_place, negated_at}
-use Rattle.craig_analyze.proofs.PlaceLemmas.{negation-twice, false-not_both, false-later, false-within, same_place}
-
-pub SameLiterals-itself : (c : Clause) → SameLiterals c c
-SameLiterals-itself c l = (λ h. h, λ h. h)
-
-SameLiterals-back : (c d : Clause) → SameLiterals c d → SameLiterals d c
-SameLiterals-back c d same l = ((same l).1, (same l).0)
+use Rattle.craig_analyze.proofs.PlaceLemmas.{false-not_both, false-within, same_place}
 
 -- a resolvent of a clause is one of another with the same literals
 IsResolvent-same : (p : Literal) (c c2 d r : Clause) → SameLiterals c c2 → IsResolvent p c d r → IsResolvent p c2 d r
@@ -30,42 +27,13 @@ IsResolvent-same p c c2 d r same resolved = record {
 module _ (f : ℕ → Option Clause) where
   -- one step more
   pub IsChain-push : (c : Clause) (steps : List ChainStep) (s : ChainStep) (r d next : Clause) → IsChain f c steps r → f s.antecedent ≡ Some d → IsResolvent s.pivot r d next → IsChain f c (steps ++ s ∷ []) next
-  IsChain-push c [] s r d next same is resolved = (d, next, is, IsResolvent-same s.pivot r c d next (SameLiterals-back c r same) resolved, SameLiterals-itself next)
+  IsChain-push c [] s r d next same is resolved = (d, next, is, IsResolvent-same s.pivot r c d next (SameLiterals-sym c r same) resolved, SameLiterals-refl next)
   IsChain-push c (q ∷ steps) s r d next (e, mid, there, resolved_first, more) is resolved = (e, mid, there, resolved_first, IsChain-push mid steps s r d next more is resolved)
 
   -- the same literals in another order
   pub IsChain-same : (c : Clause) (steps : List ChainStep) (r next : Clause) → IsChain f c steps r → SameLiterals r next → IsChain f c steps next
   IsChain-same c [] r next same more = λ l. (λ h. (more l).0 ((same l).0 h), λ h. (same l).1 ((more l).1 h))
   IsChain-same c (q ∷ steps) r next (e, mid, there, resolved_first, rest) more = (e, mid, there, resolved_first, IsChain-same mid steps r next rest more)
-
--- two literals are the same or not
-sign-decides : (a b : Bool) → (a ≡ b) ⊎ (a ≢ b)
-sign-decides true true = inl refl
-sign-decides true false = inr (λ e. (let no : true ≡ false = e in cc))
-sign-decides false true = inr (λ e. (let no : false ≡ true = e in cc))
-sign-decides false false = inl refl
-
-decides-cases : (b : Bool) (l m : Literal) → eqb l.var m.var ≡ b → (l ≡ m) ⊎ (l ≢ m)
-decides-cases true l m is =
-    let var : l.var ≡ m.var = eqb-true l.var m.var is in
-    elim (sign-decides l.negated m.negated) [
-      | inl sign ↦ inl (λ i. record { var = var i; negated = sign i })
-      | inr differ ↦ inr (λ e. differ (ap (λ (n : Literal). n.negated) e))
-    ]
-decides-cases false l m is = inr (λ e. eqb-false l.var m.var is (ap (λ (n : Literal). n.var) e))
-
-pub literal-decides : (l m : Literal) → (l ≡ m) ⊎ (l ≢ m)
-literal-decides l m = decides-cases (eqb l.var m.var) l m refl
-
-pub Contains-cases : {X : Type 0} (x : X) (xs : List X) (y : X) → Contains (x ∷ xs) y → (x ≡ y) ⊎ Contains xs y
-Contains-cases x xs y (zero, within, is) = inl is
-Contains-cases x xs y (suc k, within, is) = inr (k, omega arith, is)
-
-pub Contains-first : {X : Type 0} (x : X) (xs : List X) → Contains (x ∷ xs) x
-Contains-first x xs = (0, omega arith, refl)
-
-pub Contains-later : {X : Type 0} (x : X) (xs : List X) (y : X) → Contains xs y → Contains (x ∷ xs) y
-Contains-later x xs y (k, within, is) = (suc k, omega arith, is)
 
 -- the literal at a place isn't false under what stands before it
 pub place-not_false : (t : Trail) (place : ℕ) → AreDistinct t → place < length t → ¬ IsFalse (take place t) (at_place t place).literal
@@ -80,13 +48,13 @@ pub resolves-with_reason : (t : Trail) (place : ℕ) (extra old new reason : Cla
 resolves-with_reason t place extra old new reason apart within forces falsified not_extra not_old met =
     let pivot : Literal = negated_at t place in
     let lit : Literal = (at_place t place).literal in
-    let back : negation pivot ≡ lit = negation-twice lit in
+    let back : negation pivot ≡ lit = negation_twice lit in
     record {
-      first_has = Contains-append_right extra (pivot ∷ old) pivot (Contains-first pivot old);
+      first_has = Contains-append_right extra (pivot ∷ old) pivot (Contains-front pivot old);
       second_has = subst (Contains reason) (sym back) forces.has;
-      no_other = λ l here there. elim (literal-decides (negation l) lit) [
-        | inl same ↦ sym (negation-twice l) ∙ ap negation same
-        | inr differ ↦ absurd (false-not_both t l apart (falsified l here) (false-later place t (negation l) apart (forces.others (negation l) there differ)))
+      no_other = λ l here there. elim (same_or_not (negation l) lit) [
+        | inl same ↦ sym (negation_twice l) ∙ ap negation same
+        | inr differ ↦ absurd (false-not_both t l apart (falsified l here) (IsFalse-take place t (negation l) (forces.others (negation l) there differ)))
       ];
       literals = λ l. (
         λ h. elim (Contains-append_cases extra new l h) [

@@ -5,7 +5,9 @@ use Rattle.std.proofs.lemmas.Grind.{common_steps}
 use Rattle.std.proofs.lemmas.Bool.{eqb-false}
 use Rattle.std.proofs.lemmas.List.Sums.{sum_by-append, sum_by-cons}
 use Rattle.std.proofs.lemmas.List.Sorted.{sum_by-IsPermutation}
+use Rattle.craig_spec.proofs.MemberLemmas.{Contains-front, Contains-later}
 use Rattle.craig_base.specs.Counting.{count_of, NoneMoreThan}
+use Rattle.craig_watch.proofs.TrailLemmas.{at_most_one}
 use Rattle.craig_analyze.specs.Marks.{AreMarks, IsMarked}
 
 pub count_of-cons : (n x : ℕ) (xs : List ℕ) → count_of n (x ∷ xs) ≡ cond (eqb n x) 1 0 + count_of n xs
@@ -20,25 +22,19 @@ count_of-push n x xs = sum_by-append (λ z. cond (eqb n z) 1 0) xs (x ∷ []) �
 pub count_of-permutation : (n : ℕ) (xs ys : List ℕ) → IsPermutation xs ys → count_of n ys ≡ count_of n xs
 count_of-permutation n xs ys h = sum_by-IsPermutation (λ z. cond (eqb n z) 1 0) xs ys h
 
-Contains-front : (x : ℕ) (xs : List ℕ) (n : ℕ) → eqb n x ≡ true → Contains (x ∷ xs) n
-Contains-front x xs n e = (0, omega arith, sym (eqb-true n x e))
-
-Contains-behind : (x : ℕ) (xs : List ℕ) (n : ℕ) → Contains xs n → Contains (x ∷ xs) n
-Contains-behind x xs n (k, within, is) = (suc k, omega arith, is)
-
 cases-none : (b : Bool) (n x : ℕ) (xs : List ℕ) → eqb n x ≡ b → ¬ Contains (x ∷ xs) n → count_of n xs ≡ 0 → cond b 1 0 + count_of n xs ≡ 0
-cases-none true n x xs is h rest = absurd (h (Contains-front x xs n is))
+cases-none true n x xs is h rest = absurd (h (subst (Contains (x ∷ xs)) (sym (eqb-true n x is)) (Contains-front x xs)))
 cases-none false n x xs is h rest = omega arith
 
 -- what doesn't stand in the list is counted 0 times
 pub count_of-none : (n : ℕ) (xs : List ℕ) → ¬ Contains xs n → count_of n xs ≡ 0
 count_of-none n [] h = refl
 count_of-none n (x ∷ xs) h =
-    count_of-cons n x xs ∙ cases-none (eqb n x) n x xs refl h (count_of-none n xs (λ there. h (Contains-behind x xs n there)))
+    count_of-cons n x xs ∙ cases-none (eqb n x) n x xs refl h (count_of-none n xs (λ there. h (Contains-later x xs n there)))
 
 cases-has : (b : Bool) (n x : ℕ) (xs : List ℕ) → eqb n x ≡ b → 1 ≤ cond b 1 0 + count_of n xs → (1 ≤ count_of n xs → Contains xs n) → Contains (x ∷ xs) n
-cases-has true n x xs is h rest = Contains-front x xs n is
-cases-has false n x xs is h rest = Contains-behind x xs n (rest (omega arith))
+cases-has true n x xs is h rest = subst (Contains (x ∷ xs)) (sym (eqb-true n x is)) (Contains-front x xs)
+cases-has false n x xs is h rest = Contains-later x xs n (rest (omega arith))
 
 -- what is counted stands in the list
 pub count_of-has : (n : ℕ) (xs : List ℕ) → 1 ≤ count_of n xs → Contains xs n
@@ -55,15 +51,11 @@ Contains-counted n (x ∷ xs) (suc k, within, is) =
     let rest : 1 ≤ count_of n xs = Contains-counted n xs (k, omega arith, is) in
     rw (count_of-cons n x xs) (omega arith)
 
-flag-at_most_one : (b : Bool) → cond b 1 0 ≤ 1
-flag-at_most_one true = omega arith
-flag-at_most_one false = omega arith
-
 -- no number is marked twice
 pub AreMarks-once : (flags : List Bool) (marked : List ℕ) → AreMarks flags marked → NoneMoreThan 1 marked
 AreMarks-once flags marked h n =
     let is : count_of n marked ≡ cond (get_or flags n false) 1 0 = h n in
-    let one : cond (get_or flags n false) 1 0 ≤ 1 = flag-at_most_one (get_or flags n false) in
+    let one : cond (get_or flags n false) 1 0 ≤ 1 = at_most_one (get_or flags n false) in
     omega arith
 
 pub flagged-marked : (flags : List Bool) (marked : List ℕ) (n : ℕ) → AreMarks flags marked → get_or flags n false ≡ true → Contains marked n
@@ -97,7 +89,7 @@ remove-cases : (b : Bool) (flags : List Bool) (marked : List ℕ) (n m : ℕ) �
 remove-cases true flags marked n m is h within =
     let e : m ≡ n = eqb-true m n is in
     let off : get_or (set flags n false) m false ≡ false = ap (λ k. get_or (set flags n false) k false) e ∙ get_or-set_same flags n false false within in
-    let one : cond (get_or flags m false) 1 0 ≤ 1 = flag-at_most_one (get_or flags m false) in
+    let one : cond (get_or flags m false) 1 0 ≤ 1 = at_most_one (get_or flags m false) in
     rw off (omega arith)
 remove-cases false flags marked n m is h within =
     let ne : m ≢ n = eqb-false m n is in

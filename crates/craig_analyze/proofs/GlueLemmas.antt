@@ -1,8 +1,7 @@
 -- The greatest of some levels, and how many of them differ.
-use Rattle.std.proofs.Common.{◌≡◌, ◌↔◌, inl, inr, ℕ, ◌+◌, ◌<◌, ◌≤◌, Bool, true, false, cond, eqb, List, [], ◌∷◌, ◌++◌, length, get_or, take, map, All, Contains, max, refl, sym, ap, subst, ◌∙◌, arith, eqb-true, eq-eqb}
-use Rattle.std.specs.List.{AllByRecursion, IsDistinct, list_any}
+use Rattle.std.proofs.Common.{◌≡◌, ◌↔◌, inl, inr, ℕ, ◌+◌, ◌<◌, ◌≤◌, Bool, true, false, cond, eqb, List, [], ◌∷◌, ◌++◌, length, get_or, take, map, All, Contains, max, refl, sym, ap, subst, ◌∙◌, arith, eq-eqb}
+use Rattle.std.specs.List.{AllByRecursion, IsDistinct}
 use Rattle.std.proofs.lemmas.Bool.Decides.{leb_tells}
-use Rattle.std.proofs.lemmas.List.Folds.{Any-from_list_any}
 use Rattle.std.proofs.lemmas.List.Sums.{sum_by-cons}
 use Rattle.std.proofs.lemmas.Map.Steps.{length-le_from_distinct_below}
 use Rattle.std.proofs.lemmas.List.{map_more, take_all}
@@ -11,6 +10,7 @@ use Rattle.craig_spec.specs.Literal.{Literal, Clause}
 use Rattle.craig_base.specs.Counting.{NoneMoreThan, count_of}
 use Rattle.craig_watch.specs.Trail.{Trail, level_at}
 use Rattle.craig_watch.specs.Held.{HeldView, IsConsistent}
+use Rattle.craig_watch.proofs.TrailLemmas.{member-below}
 use Rattle.craig_analyze.specs.Learnt.{IsGreatestOf}
 use Rattle.craig_analyze.specs.Marks.{IsMarked}
 use Rattle.craig_analyze.proofs.LevelLemmas.{level_at-le}
@@ -84,14 +84,6 @@ IsDistinct-once (x ∷ xs) once =
     let here : count_of x (x ∷ xs) ≡ 1 + count_of x xs = sum_by-cons (λ z. cond (eqb x z) 1 0) x xs ∙ ap (λ (b : Bool). cond b 1 0 + count_of x xs) itself in
     let none : count_of x xs ≡ 0 = omega (arith, here, once x) in
     (absent x xs none, IsDistinct-once xs (λ y. let more = sum_by-cons (λ z. cond (eqb y z) 1 0) x xs in omega (arith, more, once y)))
-
--- a member of numbers below a bound is below it
-member-below : (n : ℕ) (xs : List ℕ) (q : ℕ) → All (λ x. x < n) xs → list_any (eqb q) xs ≡ true → q < n
-member-below n xs q small is =
-    let m = Any-from_list_any (eqb q) xs is in
-    let low : get_or xs m.0 m.1 < n = small m.0 m.1 m.2 in
-    let same : q ≡ m.1 = eqb-true q m.1 m.4 in
-    omega (arith, same, m.3, low)
 
 -- so there are few different levels
 levels-small : (h : HeldView) (lits : Clause) → IsConsistent h → All (λ n. n < h.level + 1) (map (level_at h.trail) lits)

@@ -144,7 +144,3 @@ refuted-derived h id start end s0 s1 l level b e lits named steps none =
           (subst (λ (n : ℕ). ChainOk (held_clause h.arena) [] n (chain_of l.rest)) (sym named)
           (subst (λ (rest : List ChainStep). ChainOk (held_clause h.arena) [] id rest) (sym steps) chain));
     }
-
--- one look-up gives one clause
-pub same_found : (c d : Clause) → Some c ≡ Some d → c ≡ d
-same_found c d e = cc

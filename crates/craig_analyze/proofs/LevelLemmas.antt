@@ -1,15 +1,16 @@
 -- Levels along a trail, and what is known of reasons and of clauses that are false.
-use Rattle.std.proofs.Common.{◌≡◌, ◌≢◌, ◌⊎◌, inl, inr, ℕ, suc, ◌+◌, ◌<◌, ◌≤◌, Bool, true, cond, List, [], ◌∷◌, length, get_or, take, All, Option, Some, None, IsSome, is_none, map, refl, ap, subst, ◌∙◌, arith}
+use Rattle.std.proofs.Common.{◌≡◌, ◌≢◌, ◌⊎◌, inl, inr, ℕ, suc, ◌+◌, ◌<◌, ◌≤◌, Bool, true, cond, List, length, get_or, take, All, Option, Some, None, IsSome, is_none, map, refl, ap, subst, ◌∙◌, arith}
 use Rattle.std.specs.Option.{option_map, option_map_or}
-use Rattle.std.proofs.lemmas.Grind.{common_steps}
 use Rattle.std.proofs.lemmas.List.{take-take, get_or-map}
-use Rattle.std.proofs.lemmas.List.Sums.{sum_by-append, sum_by-take-le}
+use Rattle.std.proofs.lemmas.List.Sums.{sum_by-take-le}
 use Rattle.std.proofs.Math.Seq.{take-suc}
 use Rattle.craig_spec.specs.Literal.{Literal, Clause}
 use Rattle.craig_watch.specs.declared.trail_entry.TrailEntry.{TrailEntry}
-use Rattle.craig_watch.specs.Trail.{Trail, entry_of, decisions, AreLevels, level_at}
+use Rattle.craig_watch.specs.Trail.{Trail, any_entry, entry_of, decisions, AreLevels, level_at}
 use Rattle.craig_watch.specs.Held.{HeldView, IsConsistent}
-use Rattle.craig_analyze.specs.Resolvent.{any_entry, at_place}
+use Rattle.craig_watch.proofs.TrailLemmas.{decisions-push}
+use Rattle.craig_watch.proofs.LevelsLemmas.{levels-rise, levels-present}
+use Rattle.craig_analyze.specs.Resolvent.{at_place}
 use Rattle.craig_analyze.proofs.PlaceLemmas.{entry_of-found}
 
 decisions-le : (t : Trail) (i j : ℕ) → i ≤ j → decisions (take i t) ≤ decisions (take j t)
@@ -18,28 +19,13 @@ decisions-le t i j le =
     let same : take i (take j t) ≡ take i t = take-take i j t le in
     subst (λ (u : Trail). decisions u ≤ decisions (take j t)) same less
 
-decisions-one : (e : TrailEntry) → decisions (e ∷ []) ≡ cond (is_none e.reason) 1 0
-decisions-one e = grind (arith, common_steps)
-
 -- the entry at a place is one more decision, or none
 decisions-next : (t : Trail) (k : ℕ) → k < length t → decisions (take (suc k) t) ≡ decisions (take k t) + cond (is_none (at_place t k).reason) 1 0
-decisions-next t k w =
-    ap decisions (take-suc t k any_entry w) ∙ (sum_by-append (λ (f : TrailEntry). cond (is_none f.reason) 1 0) (take k t) (at_place t k ∷ []) ∙ ap (λ (n : ℕ). decisions (take k t) + n) (decisions-one (at_place t k)))
+decisions-next t k w = ap decisions (take-suc t k any_entry w) ∙ decisions-push (take k t) (at_place t k)
 
 -- levels rise along the trail
 pub level-le : (t : Trail) (i j : ℕ) → AreLevels t → i ≤ j → j < length t → (at_place t i).level ≤ (at_place t j).level
-level-le t i j levels le w =
-    let one : (at_place t i).level ≡ decisions (take (suc i) t) = levels i any_entry (omega arith) in
-    let two : (at_place t j).level ≡ decisions (take (suc j) t) = levels j any_entry w in
-    let up : decisions (take (suc i) t) ≤ decisions (take (suc j) t) = decisions-le t (suc i) (suc j) (omega arith) in
-    omega arith
-
--- and no level is above the number of decisions
-pub level-le_decisions : (t : Trail) (i : ℕ) → AreLevels t → i < length t → (at_place t i).level ≤ decisions t
-level-le_decisions t i levels w =
-    let one : (at_place t i).level ≡ decisions (take (suc i) t) = levels i any_entry w in
-    let up : decisions (take (suc i) t) ≤ decisions t = sum_by-take-le (λ (f : TrailEntry). cond (is_none f.reason) 1 0) t (suc i) in
-    omega arith
+level-le t i j levels le w = levels-rise t levels i j any_entry le w
 
 some-cases : {A : Type 0} (o : Option A) → (is_none o ≡ true → ⊥) → IsSome o
 some-cases None h = absurd (h refl)
@@ -70,11 +56,7 @@ at_most-cases (Some e) t l n is h =
 
 -- the level of a literal is at most the present one
 pub level_at-le : (h : HeldView) (l : Literal) → IsConsistent h → level_at h.trail l ≤ h.level
-level_at-le h l ok =
-    at_most-cases (entry_of h.trail l.var) h.trail l h.level refl (λ k w.
-    let le : (at_place h.trail k).level ≤ decisions h.trail = level-le_decisions h.trail k ok.levels w in
-    let is : h.level ≡ decisions h.trail = ok.level in
-    omega arith)
+level_at-le h l ok = at_most-cases (entry_of h.trail l.var) h.trail l h.level refl (λ k w. levels-present h ok k any_entry w)
 
 level_of-cases : (o : Option TrailEntry) (n : ℕ) → option_map (λ e. e.level) o ≡ Some n → n ≡ option_map_or (λ e. e.level) o 0
 level_of-cases None n h = absurd (let no : None ≡ Some n = h in cc)

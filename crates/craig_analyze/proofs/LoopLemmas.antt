@@ -4,12 +4,13 @@ use Rattle.std.proofs.lemmas.List.Elements.{All-head, All-tail, All-contains, Al
 use Rattle.std.proofs.lemmas.List.Sorted.{Contains-permutation}
 use Rattle.craig_spec.specs.Literal.{Literal, Clause}
 use Rattle.craig_spec.specs.Chain.{ChainStep, SameLiterals, IsChain}
+use Rattle.craig_spec.proofs.MemberLemmas.{Contains-cases}
 use Rattle.craig_watch.specs.Trail.{IsFalse, level_at}
 use Rattle.craig_watch.specs.Held.{HeldView, held_clause, IsConsistent}
 use Rattle.craig_analyze.specs.Resolvent.{ResolventView, at_place, negated_at, resolvent_of, bound_of, IsEndLevel, IsUnresolved, IsGreatestTaken, IsResolvable, HasPresent, HasResolved, HasFound, HasEnded, IsWalking, IsEnding, AreApart}
 use Rattle.craig_analyze.proofs.PlaceLemmas.{same_negated, level_at-place}
 use Rattle.craig_analyze.proofs.LevelLemmas.{level-le, reason-first}
-use Rattle.craig_analyze.proofs.ChainLemmas.{Contains-cases, IsChain-same}
+use Rattle.craig_analyze.proofs.ChainLemmas.{IsChain-same}
 use Rattle.craig_analyze.proofs.ResolventLemmas.{has-pending, has-cases}
 use Rattle.craig_analyze.proofs.WalkLemmas.{Taken, IsGreatestTaken-taken}
 

@@ -8,34 +8,27 @@ use Rattle.std.proofs.lemmas.List.Quantifiers.{all_pairs_push}
 use Rattle.std.proofs.lemmas.List.Sorted.{All-permutation, Contains-permutation, IsPermutation-sym}
 use Rattle.craig_spec.specs.Literal.{Literal, Clause}
 use Rattle.craig_base.specs.Counting.{count_of, NoneMoreThan}
+use Rattle.craig_spec.proofs.MemberLemmas.{Contains-cases, Contains-from_image, Contains-front, Contains-image, Contains-later}
 use Rattle.craig_watch.specs.Trail.{Trail, entry_of, IsFalse, level_at, AreDistinct}
 use Rattle.craig_watch.specs.Held.{HeldView, IsConsistent}
+use Rattle.craig_watch.proofs.PlacesLemmas.{IsFalse-take}
 use Rattle.craig_analyze.specs.Resolvent.{ResolventView, at_place, negated_at, resolvent_of, IsEndLevel, IsUnresolved, MayBeMet, HasMet, Meets}
-use Rattle.craig_analyze.proofs.PlaceLemmas.{false-within, false-later, place-false, same_place, level_at-place, place-found}
+use Rattle.craig_analyze.proofs.PlaceLemmas.{false-within, place-false, same_place, level_at-place, place-one}
 use Rattle.craig_analyze.proofs.CountLemmas.{count_of-cons, count_of-permutation, count_of-none}
-use Rattle.craig_analyze.proofs.ChainLemmas.{Contains-cases, Contains-first, Contains-later}
-
--- members of a list of images
-Contains-map : {X Y : Type 0} (f : X → Y) (xs : List X) (x : X) → Contains xs x → Contains (map f xs) (f x)
-Contains-map f [] x (k, within, is) = absurd (let no : k < 0 = within in omega arith)
-Contains-map f (y ∷ xs) x h =
-    elim (Contains-cases y xs x h) [ inl is ↦ subst (λ z. Contains (map f (y ∷ xs)) (f z)) is (Contains-first (f y) (map f xs)) | inr rest ↦ Contains-later (f y) (map f xs) (f x) (Contains-map f xs x rest) ]
-
-Contains-from_map : {X Y : Type 0} (f : X → Y) (xs : List X) (y : Y) → Contains (map f xs) y → (x : X) × Contains xs x × (f x ≡ y)
-Contains-from_map f [] y (k, within, is) = absurd (let no : k < 0 = within in omega arith)
-Contains-from_map f (x ∷ xs) y h =
-    elim (Contains-cases (f x) (map f xs) y h) [ inl is ↦ (x, Contains-first x xs, is) | inr rest ↦ (let r = Contains-from_map f xs y rest in (r.0, Contains-later x xs r.0 r.1, r.2)) ]
 
 -- the literals of the resolvent
 pub has-pending : (t : Trail) (s : ResolventView) (p : ℕ) → Contains s.pending p → Contains (resolvent_of t s) (negated_at t p)
-has-pending t s p h = Contains-append_left (map (negated_at t) s.pending) s.lower (negated_at t p) (Contains-map (negated_at t) s.pending p h)
+has-pending t s p h = Contains-append_left (map (negated_at t) s.pending) s.lower (negated_at t p) (Contains-image (negated_at t) s.pending p h)
 
 pub has-lower : (t : Trail) (s : ResolventView) (l : Literal) → Contains s.lower l → Contains (resolvent_of t s) l
 has-lower t s l h = Contains-append_right (map (negated_at t) s.pending) s.lower l h
 
 pub has-cases : (t : Trail) (s : ResolventView) (l : Literal) → Contains (resolvent_of t s) l → ((p : ℕ) × Contains s.pending p × (negated_at t p ≡ l)) ⊎ Contains s.lower l
 has-cases t s l h =
-    elim (Contains-append_cases (map (negated_at t) s.pending) s.lower l h) [ inl pending ↦ inl (Contains-from_map (negated_at t) s.pending l pending) | inr lower ↦ inr lower ]
+    elim (Contains-append_cases (map (negated_at t) s.pending) s.lower l h) [
+      | inl pending ↦ let there = Contains-from_image (negated_at t) s.pending l pending in inl (there.0, there.1, sym there.2)
+      | inr lower ↦ inr lower
+    ]
 
 -- they are false
 pub resolvent-false : (h : HeldView) (b : ℕ) (s : ResolventView) (l : Literal) → IsConsistent h → IsUnresolved h b s → Contains (resolvent_of h.trail s) l → IsFalse h.trail l
@@ -89,7 +82,7 @@ adds-met h b lit old new ok u lit_false marked adds l l_false has =
 
 adds-literals : (t : Trail) (b : ℕ) (lit : Literal) (old new : ResolventView) → IsFalse (take b t) lit → Adds t lit old new → (l : Literal) → Contains (resolvent_of t new) l ↔ (Contains (resolvent_of t old) l ⊎ (Contains (lit ∷ []) l × IsFalse (take b t) l))
 adds-literals t b lit old new lit_false adds l = (
-  λ here. elim ((adds l).0 here) [ inl before ↦ inl before | inr is ↦ inr (subst (Contains (lit ∷ [])) is (Contains-first lit []), subst (IsFalse (take b t)) is lit_false) ],
+  λ here. elim ((adds l).0 here) [ inl before ↦ inl before | inr is ↦ inr (subst (Contains (lit ∷ [])) is (Contains-front lit []), subst (IsFalse (take b t)) is lit_false) ],
   λ either. (adds l).1 (elim either [
     | inl before ↦ inl before
     | inr met ↦ elim (Contains-cases lit [] l met.0) [ inl e ↦ inr e | inr none ↦ absurd (let no : none.0 < 0 = none.1 in omega arith) ]
@@ -131,7 +124,7 @@ HasMet-lower h b s lit marked ok u lit_false fresh is above below =
         once = u.once;
         ends = u.ends;
         pending_marked = All-weaker (λ p. Contains s.marked (at_place t p).literal.var) (λ p. Contains marked (at_place t p).literal.var) (λ p. marked-more s.marked marked lit.var (at_place t p).literal.var is) s.pending u.pending_marked;
-        lower_false = All-push (IsFalse t) s.lower lit u.lower_false (false-later b t lit ok.distinct lit_false);
+        lower_false = All-push (IsFalse t) s.lower lit u.lower_false (IsFalse-take b t lit lit_false);
         lower_inner = All-push (λ l. (0 < level_at t l) × (level_at t l < h.level)) s.lower lit u.lower_inner (above, below);
         lower_apart = all_pairs_push (λ l m. l.var ≢ m.var) s.lower lit u.lower_apart (λ k d w e. fresh (subst (Contains s.marked) e (u.lower_marked k d w)));
         lower_marked = All-push (λ l. Contains marked l.var) s.lower lit (All-weaker (λ l. Contains s.marked l.var) (λ l. Contains marked l.var) (λ l. marked-more s.marked marked lit.var l.var is) s.lower u.lower_marked) (marked-last s.marked marked lit.var is);
@@ -157,7 +150,7 @@ adds-pending t lit s marked pending p is moved l =
           | inl there ↦ subst (Contains (resolvent_of t new)) there.2 (has-pending t new there.0 (Contains-permutation (p ∷ s.pending) pending there.0 moved (Contains-later p s.pending there.0 there.1)))
           | inr lower ↦ has-lower t new l lower
         ]
-        | inr e ↦ subst (Contains (resolvent_of t new)) (is ∙ e) (has-pending t new p (Contains-permutation (p ∷ s.pending) pending p moved (Contains-first p s.pending)))
+        | inr e ↦ subst (Contains (resolvent_of t new)) (is ∙ e) (has-pending t new p (Contains-permutation (p ∷ s.pending) pending p moved (Contains-front p s.pending)))
       ],
     )
 
@@ -177,7 +170,7 @@ HasMet-pending h b s lit marked pending p ok u lit_false fresh is p_within found
     let t : Trail = h.trail in
     let new : ResolventView = record { marked = marked; pending = pending; lower = s.lower } in
     let at = false-within b t lit lit_false in
-    let here : p ≡ at.0 = place-found t lit at.0 p ok.distinct at.2 p_within at.3 found in
+    let here : p ≡ at.0 = place-one t lit at.0 p ok.distinct at.2 p_within at.3 found in
     let negated : negated_at t p ≡ lit = ap (negated_at t) here ∙ at.3 in
     let var : (at_place t p).literal.var ≡ lit.var = ap (λ (l : Literal). l.var) negated in
     let low : p < b = let w = at.1 in omega arith in

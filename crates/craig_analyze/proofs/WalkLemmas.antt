@@ -12,13 +12,16 @@ use Rattle.craig_base.specs.declared.clause_id.ClauseId.{ClauseId}
 use Rattle.craig_base.specs.Arena.{literals_at}
 use Rattle.craig_proof.specs.declared.step.Step.{Step}
 use Rattle.craig_proof.specs.Tracer.{chain_of}
-use Rattle.craig_watch.specs.Trail.{Trail, entry_of, IsFalse, IsAssigned, level_at, AreDistinct}
+use Rattle.craig_spec.proofs.MemberLemmas.{Contains-cases, Contains-front, Contains-later}
+use Rattle.craig_spec.proofs.LiteralLemmas.{same_or_not}
+use Rattle.craig_watch.specs.Trail.{Trail, any_entry, entry_of, IsFalse, IsAssigned, level_at, AreDistinct}
 use Rattle.craig_watch.specs.Held.{HeldView, held_clause, Forces, IsConsistent}
-use Rattle.craig_analyze.specs.Resolvent.{ResolventView, any_entry, at_place, negated_at, resolvent_of, IsEndLevel, IsUnresolved, MayBeMet, HasMet, Meets, IsGreatestTaken, IsResolvable, HasResolved}
-use Rattle.craig_analyze.proofs.PlaceLemmas.{false-within, within-false, false-later, false-assigned, place-assigned, place-false, same_negated, entry_of-place, level_at-place}
+use Rattle.craig_watch.proofs.PlacesLemmas.{IsFalse-take}
+use Rattle.craig_analyze.specs.Resolvent.{ResolventView, at_place, negated_at, resolvent_of, IsEndLevel, IsUnresolved, MayBeMet, HasMet, Meets, IsGreatestTaken, IsResolvable, HasResolved}
+use Rattle.craig_analyze.proofs.PlaceLemmas.{false-within, within-false, false-assigned, place-assigned, place-false, same_negated, entry_of-place, level_at-place}
 use Rattle.craig_analyze.proofs.LevelLemmas.{reason_of-cases}
 use Rattle.craig_analyze.proofs.CountLemmas.{count_of-cons, count_of-permutation, Contains-counted}
-use Rattle.craig_analyze.proofs.ChainLemmas.{Contains-cases, Contains-first, Contains-later, literal-decides, resolves-with_reason, IsChain-push}
+use Rattle.craig_analyze.proofs.ChainLemmas.{resolves-with_reason, IsChain-push}
 use Rattle.craig_analyze.proofs.ResolventLemmas.{has-pending, has-lower, has-cases, resolvent-false}
 use Rattle.craig_analyze.proofs.HeldClauseLemmas.{held-live}
 
@@ -57,13 +60,13 @@ same-taken : (t : Trail) (place : ℕ) (old new : ResolventView) → IsPermutati
 same-taken t place old new moved lower l = (
   λ here. elim (has-cases t old l here) [
     | inl there ↦ elim (Contains-cases place new.pending there.0 (Contains-permutation old.pending (place ∷ new.pending) there.0 moved there.1)) [
-      | inl e ↦ subst (Contains (negated_at t place ∷ resolvent_of t new)) (ap (negated_at t) e ∙ there.2) (Contains-first (negated_at t place) (resolvent_of t new))
+      | inl e ↦ subst (Contains (negated_at t place ∷ resolvent_of t new)) (ap (negated_at t) e ∙ there.2) (Contains-front (negated_at t place) (resolvent_of t new))
       | inr rest ↦ Contains-later (negated_at t place) (resolvent_of t new) l (subst (Contains (resolvent_of t new)) there.2 (has-pending t new there.0 rest))
     ]
     | inr in_lower ↦ Contains-later (negated_at t place) (resolvent_of t new) l (has-lower t new l (subst (λ (c : Clause). Contains c l) (sym lower) in_lower))
   ],
   λ here. elim (Contains-cases (negated_at t place) (resolvent_of t new) l here) [
-    | inl e ↦ subst (Contains (resolvent_of t old)) e (has-pending t old place (Contains-permutation (place ∷ new.pending) old.pending place (IsPermutation-sym old.pending (place ∷ new.pending) moved) (Contains-first place new.pending)))
+    | inl e ↦ subst (Contains (resolvent_of t old)) e (has-pending t old place (Contains-permutation (place ∷ new.pending) old.pending place (IsPermutation-sym old.pending (place ∷ new.pending) moved) (Contains-front place new.pending)))
     | inr rest ↦ elim (has-cases t new l rest) [
       | inl there ↦ subst (Contains (resolvent_of t old)) there.2 (has-pending t old there.0 (Contains-permutation (place ∷ new.pending) old.pending there.0 (IsPermutation-sym old.pending (place ∷ new.pending) moved) (Contains-later place new.pending there.0 there.1)))
       | inr in_lower ↦ has-lower t old l (subst (λ (c : Clause). Contains c l) lower in_lower)
@@ -90,7 +93,7 @@ Taken-same h b place s pending ok u moved greatest =
     let within : place < length t = let w = u.within in omega arith in
     let same : SameLiterals (resolvent_of t s) (negated_at t place ∷ resolvent_of t new) = same-taken t place s new moved refl in
     record {
-      there = Contains-permutation (place ∷ pending) s.pending place (IsPermutation-sym s.pending (place ∷ pending) moved) (Contains-first place pending);
+      there = Contains-permutation (place ∷ pending) s.pending place (IsPermutation-sym s.pending (place ∷ pending) moved) (Contains-front place pending);
       within = within;
       end = All-head (λ p. IsEndLevel h (at_place t p).level) place pending all_ends;
       marked = All-head (λ p. Contains s.marked (at_place t p).literal.var) place pending all_marked;
@@ -136,7 +139,7 @@ pivot-gone h place s ok within end u has =
 pub reason-may_be_met : (h : HeldView) (place : ℕ) (s : ResolventView) (reason : Clause) → IsResolvable h place s → Forces (take place h.trail) reason (at_place h.trail place).literal → All (MayBeMet h.trail place s) reason
 reason-may_be_met h place s reason r forces k d w =
     let l : Literal = get_or reason k d in
-    elim (literal-decides l (at_place h.trail place).literal) [
+    elim (same_or_not l (at_place h.trail place).literal) [
       | inl same ↦ inr (subst (λ (m : Literal). Contains s.marked m.var) (sym same) r.marked)
       | inr differ ↦ inl (forces.others l (Contains-get_or reason k d w) differ)
     ]
@@ -144,9 +147,9 @@ reason-may_be_met h place s reason r forces k d w =
 pub reason-assigned : (h : HeldView) (place : ℕ) (reason : Clause) → IsConsistent h → place < length h.trail → Forces (take place h.trail) reason (at_place h.trail place).literal → All (λ l. IsAssigned h.trail l.var) reason
 reason-assigned h place reason ok within forces k d w =
     let l : Literal = get_or reason k d in
-    elim (literal-decides l (at_place h.trail place).literal) [
+    elim (same_or_not l (at_place h.trail place).literal) [
       | inl same ↦ subst (λ (m : Literal). IsAssigned h.trail m.var) (sym same) (place-assigned h.trail place ok.distinct within)
-      | inr differ ↦ false-assigned h.trail l (false-later place h.trail l ok.distinct (forces.others l (Contains-get_or reason k d w) differ))
+      | inr differ ↦ false-assigned h.trail l (IsFalse-take place h.trail l (forces.others l (Contains-get_or reason k d w) differ))
     ]
 
 -- the reason that is told of the variable at a place

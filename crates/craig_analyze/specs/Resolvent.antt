@@ -1,28 +1,27 @@
 -- The resolvent in the course of conflict analysis.
-use Rattle.std.specs.Prelude.{◌≡◌, ◌≢◌, ◌⊎◌, ◌↔◌, ℕ, ◌<◌, ◌≤◌, false, List, [], ◌∷◌, ◌++◌, None, Some, IsSome, length, map, max, suc, take, All, AllPairs, Contains, slice_index_or}
+use Rattle.std.specs.Prelude.{◌≡◌, ◌≢◌, ◌⊎◌, ◌↔◌, ℕ, ◌<◌, ◌≤◌, List, [], ◌∷◌, ◌++◌, Some, IsSome, length, map, max, suc, take, All, AllPairs, Contains, slice_index_or}
 use Rattle.std.specs.List.Sorted.{IsPermutation}
 use Rattle.std.specs.BinaryHeap.{heap_items}
 use Rattle.craig_spec.specs.Literal.{Literal, Clause, negation}
 use Rattle.craig_spec.specs.Chain.{ChainStep, SameLiterals, IsChain}
 use Rattle.craig_base.specs.Counting.{NoneMoreThan}
 use Rattle.craig_watch.specs.declared.trail_entry.TrailEntry.{TrailEntry}
-use Rattle.craig_watch.specs.Trail.{Trail, IsFalse, level_at}
+use Rattle.craig_watch.specs.Trail.{Trail, any_entry, IsFalse, level_at}
 use Rattle.craig_watch.specs.Held.{HeldView, held_clause}
 use Rattle.craig_analyze.specs.declared.resolvent.Resolvent.{Resolvent}
 
--- the variables that were met, the places on the trail that are to be resolved on, and the literals that stay
+-- what contracts see of a resolvent
 pub record ResolventView : Type 0 where
+  -- the variables that were met
   pub marked : List ℕ
+  -- the places on the trail that are to be resolved on
   pub pending : List ℕ
+  -- the literals of the levels between, which stay
   pub lower : Clause
 
 -- what the fields of a resolvent say
 abbrev pub view_of : Resolvent → ResolventView
 view_of r = record { marked = r.variables; pending = heap_items r.pending; lower = r.lower.items }
-
--- an entry to name where there is none
-abbrev pub any_entry : TrailEntry
-any_entry = record { literal = record { var = 0; negated = false }; level = 0; reason = None }
 
 -- the entry at the place on the trail
 abbrev pub at_place : Trail → ℕ → TrailEntry
@@ -42,15 +41,25 @@ IsEndLevel h level = (level ≡ 0) ⊎ (level ≡ h.level)
 
 -- a false clause under way: what is pending stands below the bound, and what is marked there is in the clause
 pub record IsUnresolved (h : HeldView) (bound : ℕ) (s : ResolventView) : Type 0 where
+  -- the bound is on the trail
   pub within : bound ≤ length h.trail
+  -- what is pending stands below the bound
   pub below : All (λ p. p < bound) s.pending
+  -- no place is pending twice
   pub once : NoneMoreThan 1 s.pending
+  -- what is pending is of level 0 or of the present level
   pub ends : All (λ p. IsEndLevel h (at_place h.trail p).level) s.pending
+  -- the variable of a pending place is marked
   pub pending_marked : All (λ p. Contains s.marked (at_place h.trail p).literal.var) s.pending
+  -- the lower literals are false
   pub lower_false : All (IsFalse h.trail) s.lower
+  -- they are of levels between
   pub lower_inner : All (λ l. (0 < level_at h.trail l) × (level_at h.trail l < h.level)) s.lower
+  -- they are of different variables
   pub lower_apart : AllPairs (λ l m. l.var ≢ m.var) s.lower
+  -- their variables are marked
   pub lower_marked : All (λ l. Contains s.marked l.var) s.lower
+  -- what is false below the bound and marked is in the clause
   pub met : (l : Literal) → IsFalse (take bound h.trail) l → Contains s.marked l.var → Contains (resolvent_of h.trail s) l
 
 -- the literal may be met: it is false under what stands below the bound, or marked
@@ -59,8 +68,11 @@ MayBeMet t bound s l = IsFalse (take bound t) l ⊎ Contains s.marked l.var
 
 -- the literals that are false under what stands below the bound came into the resolvent
 pub record HasMet (h : HeldView) (bound : ℕ) (c : Clause) (old new : ResolventView) : Type 0 where
+  -- the clause is under way still
   pub unresolved : IsUnresolved h bound new
+  -- it has the literals from before and those of the other clause that are false below the bound
   pub literals : (l : Literal) → Contains (resolvent_of h.trail new) l ↔ (Contains (resolvent_of h.trail old) l ⊎ (Contains c l × IsFalse (take bound h.trail) l))
+  -- what was marked stays so
   pub marked : (v : ℕ) → Contains old.marked v → Contains new.marked v
 
 -- the same after a clause was met, from each state in which it may be
@@ -69,17 +81,26 @@ Meets h c old new = (bound : ℕ) → IsUnresolved h bound old → All (MayBeMet
 
 -- the greatest place is taken out
 pub record IsGreatestTaken (place : ℕ) (old new : ResolventView) : Type 0 where
+  -- the place was pending, and the rest is pending still
   pub rest : IsPermutation old.pending (place ∷ new.pending)
+  -- no other is greater
   pub greatest : All (λ p. p ≤ place) new.pending
+  -- the same variables are marked
   pub marked : new.marked ≡ old.marked
+  -- the same literals stay
   pub lower : new.lower ≡ old.lower
 
 -- the place that was taken out may be resolved on
 pub record IsResolvable (h : HeldView) (place : ℕ) (s : ResolventView) : Type 0 where
+  -- the place is on the trail
   pub within : place < length h.trail
+  -- its literal is of level 0 or of the present level
   pub end : IsEndLevel h (at_place h.trail place).level
+  -- its variable is marked
   pub marked : Contains s.marked (at_place h.trail place).literal.var
+  -- it has a reason
   pub forced : IsSome (at_place h.trail place).reason
+  -- what is pending stands below it
   pub unresolved : IsUnresolved h place s
 
 -- a chain that ends at the resolvent, beside literals that stay
@@ -92,15 +113,22 @@ AreApart h place extra = All (λ l. IsFalse h.trail l × (l ≢ negated_at h.tra
 
 -- the literal at the place was resolved on
 pub record HasResolved (h : HeldView) (place : ℕ) (before after : List ChainStep) (old new : ResolventView) : Type 0 where
+  -- what is pending stands below the place
   pub unresolved : IsUnresolved h place new
+  -- the other literals are in the resolvent still
   pub longer : (l : Literal) → Contains (resolvent_of h.trail old) l → Contains (resolvent_of h.trail new) l
+  -- a chain to the resolvent before leads to the one after
   pub chain : (start extra : Clause) → AreApart h place extra → IsChain (held_clause h.arena) start before (extra ++ negated_at h.trail place ∷ resolvent_of h.trail old) → Leads h start after extra new
 
 -- the state after the literals of a false clause were met
 pub record HasBegun (h : HeldView) (id : ℕ) (s : ResolventView) : Type 0 where
+  -- the false clause
   pub conflict : Clause
+  -- it is held
   pub held : held_clause h.arena id ≡ Some conflict
+  -- the resolvent has its literals
   pub same : SameLiterals conflict (resolvent_of h.trail s)
+  -- it is under way
   pub unresolved : IsUnresolved h (length h.trail) s
 
 -- a pending place is of the present level
@@ -109,34 +137,54 @@ HasPresent h s = (p : ℕ) × Contains s.pending p × ((at_place h.trail p).leve
 
 -- the asserting literal was found, and all other pending places are of level 0
 pub record HasFound (h : HeldView) (first : Literal) (before after : List ChainStep) (old new : ResolventView) : Type 0 where
+  -- the place of the literal
   pub place : ℕ
+  -- it is on the trail
   pub within : place < length h.trail
+  -- the literal is false by the entry there
   pub first_is : first ≡ negated_at h.trail place
+  -- it is of the present level
   pub level : (at_place h.trail place).level ≡ h.level
+  -- what is pending stands below it
   pub unresolved : IsUnresolved h place new
+  -- what is pending is of level 0
   pub root : All (λ p. (at_place h.trail p).level ≡ 0) new.pending
+  -- a chain to the resolvent before leads to the literal and the resolvent after
   pub chain : (start : Clause) → Leads h start before [] old → Leads h start after (first ∷ []) new
 
 -- all pending places were resolved on, beside other false literals of levels above 0
 pub record HasEnded (h : HeldView) (before after : List ChainStep) (old new : ResolventView) : Type 0 where
+  -- a bound of what was pending
   pub bound : ℕ
+  -- the clause is under way still
   pub unresolved : IsUnresolved h bound new
+  -- nothing is pending
   pub none : new.pending ≡ []
+  -- a chain to the resolvent before, beside such literals, leads to the one after
   pub chain : (start extra : Clause) → All (λ l. IsFalse h.trail l × (0 < level_at h.trail l)) extra → Leads h start before extra old → Leads h start after extra new
 
 -- the search for the asserting literal so far: the place that was taken out last is of the present level
 pub record IsWalking (h : HeldView) (place : ℕ) (before after : List ChainStep) (old s : ResolventView) : Type 0 where
+  -- the place is on the trail
   pub within : place < length h.trail
+  -- its literal is of the present level
   pub level : (at_place h.trail place).level ≡ h.level
+  -- its variable is marked
   pub marked : Contains s.marked (at_place h.trail place).literal.var
+  -- what is pending stands below it
   pub unresolved : IsUnresolved h place s
+  -- a chain to the resolvent at the start leads to the literal and the present resolvent
   pub chain : (start : Clause) → Leads h start before [] old → IsChain (held_clause h.arena) start after (negated_at h.trail place ∷ resolvent_of h.trail s)
 
 -- the resolution at level 0 so far
 pub record IsEnding (h : HeldView) (before after : List ChainStep) (old s : ResolventView) : Type 0 where
+  -- a bound of what is pending
   pub bound : ℕ
+  -- the clause is under way
   pub unresolved : IsUnresolved h bound s
+  -- what is pending is of level 0
   pub root : All (λ p. (at_place h.trail p).level ≡ 0) s.pending
+  -- a chain to the resolvent at the start, beside such literals, leads to the present one
   pub chain : (start extra : Clause) → All (λ l. IsFalse h.trail l × (0 < level_at h.trail l)) extra → Leads h start before extra old → Leads h start after extra s
 
 -- a number above all of the list

@@ -1,4 +1,9 @@
 //! What is learnt from a conflict.
+//!
+//! Clause learning: Marques-Silva and Sakallah, "GRASP", IEEE Transactions on Computers 48, 1999. The first unique
+//! implication point: Zhang, Madigan, Moskewicz and Malik, "Efficient Conflict Driven Learning in a Boolean
+//! Satisfiability Solver", ICCAD 2001. The walk back along the trail: Eén and Sörensson, "An Extensible SAT-solver",
+//! SAT 2003.
 ghost use Rattle.std.specs.Prelude.{◌≡◌, ◌<◌, [], ◌∷◌, IfOk};
 ghost use Rattle.craig_watch.specs.Held.{IsFalsified};
 ghost use Rattle.craig_analyze.specs.Learnt.{IsAssertingClause, IsDerived};
@@ -46,8 +51,7 @@ impl Analysis {
     /// The clause is false now. Its first literal alone is of the present level, and no other is of level 0, so that
     /// it forces the first after going back to the level `back`, the greatest of the others' levels. No held clause is
     /// contained in it, and its chain begins at `conflict` and ends in its literals. `glue` counts the different levels
-    /// of its literals. The clause is that of the first unique implication point (Marques-Silva and Sakallah, IEEE
-    /// Transactions on Computers 48, 1999; Eén and Sörensson, SAT 2003). An `AllocError` comes only for want of
+    /// of its literals. The clause is that of the first unique implication point. An `AllocError` comes only for want of
     /// memory, and the workspace may be used again after it.
     pub fn learn_with(&mut self, held: &Held, conflict: ClauseId) -> Result<Learnt, AllocError>
         requires level { 0 < held.now.level }
@@ -74,7 +78,7 @@ impl Analysis {
     }
 }
 
-// The literal and then the others.
+/// The literal and then the others.
 fn with_first(alloc: Global, first: Lit, others: &[Lit]) -> Result<Lits, AllocError>
     ensures { IfOk result (λ l. l ≡ first ∷ others.now) }
 {
@@ -111,7 +115,7 @@ mod tests {
         glue: 0,
     };
 
-    // The literal of the variable.
+    /// The literal of the variable.
     fn positive(var: u32) -> Lit
         requires { var < 2147483648 }
         ensures { result.var ≡ var }
@@ -119,7 +123,7 @@ mod tests {
         Lit::new(Var(var), false)
     }
 
-    // The negation of the variable.
+    /// The negation of the variable.
     fn negative(var: u32) -> Lit
         requires { var < 2147483648 }
         ensures { result.var ≡ var }
@@ -127,7 +131,7 @@ mod tests {
         Lit::new(Var(var), true)
     }
 
-    // Propagates and then decides the variable, where it may be decided.
+    /// Propagates and then decides the variable, where it may be decided.
     fn decide_next(held: &mut Held, var: Var) -> Result<bool, AllocError> {
         if !held.known(var) {
             return Ok(false);
@@ -143,7 +147,7 @@ mod tests {
         Ok(true)
     }
 
-    // Propagates, and learns from the clause that is false then, or refutes it at level 0.
+    /// Propagates, and learns from the clause that is false then, or refutes it at level 0.
     fn learn_next(alloc: Global, held: &mut Held) -> Result<Option<Learnt>, AllocError> {
         let Some(conflict) = held.propagate()? else {
             return Ok(None);
@@ -154,7 +158,7 @@ mod tests {
         Ok(Some(learn(alloc, held, conflict)?))
     }
 
-    // The same twice in one workspace, where the level is above 0.
+    /// The same twice in one workspace, where the level is above 0.
     fn learn_twice(analysis: &mut Analysis, held: &mut Held) -> Result<Option<Learnt>, AllocError> {
         let Some(conflict) = held.propagate()? else {
             return Ok(None);
@@ -166,7 +170,7 @@ mod tests {
         Ok(Some(analysis.learn_with(held, conflict)?))
     }
 
-    // Resolves with a held clause.
+    /// Resolves with a held clause.
     fn resolve(
         resolvent: &mut Vec<Lit>,
         held: &Held,
@@ -185,7 +189,7 @@ mod tests {
         Ok(())
     }
 
-    // Whether the chain ends in the literals of the clause.
+    /// Whether the chain ends in the literals of the clause.
     fn is_end_of_chain(alloc: Global, held: &Held, learnt: &Learnt) -> Result<bool, AllocError> {
         let mut resolvent = Vec::new(alloc);
         if held.arena().live(learnt.first) {
@@ -199,7 +203,7 @@ mod tests {
         Ok(same && lits.iter().all(|lit| resolvent.as_slice().contains(lit)))
     }
 
-    // Whether these literals were learnt, with these levels, by a chain of so many steps that ends in them.
+    /// Whether these literals were learnt, with these levels, by a chain of so many steps that ends in them.
     fn is_wanted(
         alloc: Global,
         held: &Held,
@@ -214,7 +218,7 @@ mod tests {
         Ok(learnt.rest.as_slice().len() == steps && is_end_of_chain(alloc, held, learnt)?)
     }
 
-    // Three clauses, one of which is false once variable 0 is true and the others are propagated.
+    /// Three clauses, one of which is false once variable 0 is true and the others are propagated.
     fn hold_cycle(held: &mut Held) -> Result<(), AllocError>
         requires level { held.old.level ≡ 0 }
         requires vars { held.old.vars ≡ 0 }
@@ -238,7 +242,7 @@ mod tests {
         Ok(())
     }
 
-    // Clauses that make a clause false at the third decision, with literals of three levels and of level 0.
+    /// Clauses that make a clause false at the third decision, with literals of three levels and of level 0.
     fn hold_levels(held: &mut Held) -> Result<(), AllocError>
         requires level { held.old.level ≡ 0 }
         requires vars { held.old.vars ≡ 0 }
@@ -268,7 +272,7 @@ mod tests {
         Ok(())
     }
 
-    // Two unit clauses that contradict each other.
+    /// Two unit clauses that contradict each other.
     fn hold_contradiction(held: &mut Held) -> Result<(), AllocError>
         requires level { held.old.level ≡ 0 }
         requires vars { held.old.vars ≡ 0 }

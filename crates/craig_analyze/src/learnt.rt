@@ -1,3 +1,5 @@
+//! What conflict analysis answers.
+
 use craig_base::{ClauseId, Lits};
 use craig_proof::Steps;
 

@@ -1,4 +1,7 @@
 //! What the levels of literals say of a clause.
+//!
+//! The number of different levels, called glue, is that of Audemard and Simon, "Predicting Learnt Clauses Quality in
+//! Modern SAT Solvers", IJCAI 2009.
 ghost use Rattle.std.specs.Prelude.{All, IfOk, map};
 ghost use Rattle.craig_watch.specs.Trail.{IsAssigned, level_at};
 ghost use Rattle.craig_watch.specs.Held.{IsConsistent};
@@ -9,7 +12,7 @@ use craig_base::Lit;
 use craig_watch::Held;
 use std::alloc::AllocError;
 
-// The greatest level of the literals, 0 where there is none.
+/// The greatest level of the literals, 0 where there is none.
 pub(crate) fn greatest_level(held: &Held, lits: &[Lit]) -> u32
     requires { All (λ l. IsAssigned held.now.trail l.var) lits.now }
     ensures { IsGreatestOf (map (level_at held.now.trail) lits.now) result }
@@ -21,7 +24,7 @@ pub(crate) fn greatest_level(held: &Held, lits: &[Lit]) -> u32
     greatest
 }
 
-// The number of different levels of the literals.
+/// The number of different levels of the literals.
 pub(crate) fn count_levels(marks: &mut Marks, held: &Held, lits: &[Lit]) -> Result<u32, AllocError>
     requires assigned { All (λ l. IsAssigned held.now.trail l.var) lits.now }
     requires consistent { IsConsistent held.now }

@@ -1,9 +1,8 @@
 //! Conflict analysis: what a solver learns from a held clause that is false.
 //!
-//! `learn` resolves back along the trail until one literal of the present level is left, the first unique implication
-//! point (Marques-Silva and Sakallah, "GRASP", IEEE Transactions on Computers 48, 1999; Eén and Sörensson, "An
-//! Extensible SAT-solver", SAT 2003), and `refute` resolves all literals away at level 0. Each answer comes with its
-//! resolution chain over held clauses. Literals are resolved on from the last on the trail to the first.
+//! `learn` resolves back along the trail until one literal of the present level is left, and `refute` resolves all
+//! literals away at level 0. Each answer comes with its resolution chain over held clauses. Literals are resolved on
+//! from the last on the trail to the first. `analysis.rt` says where the method comes from.
 #![tactic(auto)]
 
 mod analysis;

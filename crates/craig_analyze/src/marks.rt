@@ -6,7 +6,7 @@ ghost use Rattle.craig_analyze.specs.Marks.{IsMarked};
 use std::alloc::{AllocError, Global};
 use std::marker::Model;
 
-// A set of numbers. Contracts see the list of its members in the order in which they came in, none twice.
+/// A set of numbers. Contracts see the list of its members in the order in which they came in, none twice.
 #[derive(Drop)]
 pub struct Marks {
     // by number, whether it is in the set
@@ -26,7 +26,7 @@ impl Model for Marks {
 }
 
 impl Marks {
-    // The empty set, which takes no memory.
+    /// The empty set, which takes no memory.
     pub(crate) fn new(alloc: Global) -> Marks
         ensures { result ≡ [] }
     {
@@ -36,7 +36,7 @@ impl Marks {
         }
     }
 
-    // Puts a number into the set, and says whether it is new. After an error the set is as before.
+    /// Puts a number into the set, and says whether it is new. After an error the set is as before.
     pub(crate) fn insert(&mut self, number: u32) -> Result<bool, AllocError>
         ensures marked { IfOk result (IsMarked number self.old self.new) }
         ensures unchanged { OnErr result (self.new ≡ self.old) }
@@ -51,7 +51,7 @@ impl Marks {
         Ok(true)
     }
 
-    // Takes all numbers out.
+    /// Takes all numbers out.
     pub(crate) fn clear(&mut self)
         ensures { self.new ≡ [] }
     {
@@ -60,7 +60,7 @@ impl Marks {
         }
     }
 
-    // How many numbers are in the set.
+    /// How many numbers are in the set.
     pub(crate) fn len(&self) -> usize
         ensures number { result ≡ length self.now }
         ensures once { NoneMoreThan 1 self.now }
@@ -69,14 +69,14 @@ impl Marks {
     }
 }
 
-// Whether the flag of the number is there and set.
+/// Whether the flag of the number is there and set.
 fn is_set(flags: &[bool], place: usize) -> bool
     ensures { result ≡ slice_index_or flags.now place false }
 {
     place < flags.len() && flags[place]
 }
 
-// Makes room for the flags of all numbers below the bound.
+/// Makes room for the flags of all numbers below the bound.
 fn grow(flags: &mut Vec<bool>, bound: usize) -> Result<(), AllocError>
     ensures room { OnOk result (bound ≤ vec_len flags.new) }
     ensures same { (n : ℕ) → slice_index_or flags.new.items n false ≡ slice_index_or flags.old.items n false }

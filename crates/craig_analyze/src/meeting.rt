@@ -11,7 +11,7 @@ use craig_watch::Held;
 use std::alloc::AllocError;
 
 impl Resolvent {
-    // Begins with the literals of a held clause that is false.
+    /// Begins with the literals of a held clause that is false.
     pub(crate) fn begin(&mut self, held: &Held, conflict: ClauseId) -> Result<(), AllocError>
         requires { IsFalsified held.now conflict.0 }
         ensures begun { OnOk result (HasBegun held.now conflict.0 (view_of self.new)) }
@@ -23,7 +23,7 @@ impl Resolvent {
         self.meet(held, conflict)
     }
 
-    // Takes up the literals of a held clause that are false and not met yet.
+    /// Takes up the literals of a held clause that are false and not met yet.
     pub(crate) fn meet(&mut self, held: &Held, id: ClauseId) -> Result<(), AllocError>
         requires live { IsLive held.now.arena id.0 }
         requires assigned { All (λ l. IsAssigned held.now.trail l.var) (literals_at held.now.arena id.0) }
@@ -36,7 +36,7 @@ impl Resolvent {
         Ok(())
     }
 
-    // Takes up a literal, where its variable is not met yet.
+    /// Takes up a literal, where its variable is not met yet.
     fn meet_literal(&mut self, held: &Held, lit: Lit) -> Result<(), AllocError>
         requires { IsAssigned held.now.trail lit.var }
         ensures { OnOk result (Meets held.now (lit ∷ []) (view_of self.old) (view_of self.new)) }
@@ -54,7 +54,7 @@ impl Resolvent {
     }
 }
 
-// Whether literals of the level are resolved on: those of level 0 and of the present level.
+/// Whether literals of the level are resolved on: those of level 0 and of the present level.
 fn is_end_level(held: &Held, level: u32) -> bool
     ensures yes { result ≡ true → IsEndLevel held.now level }
     ensures no { result ≡ false → (level ≢ 0) × (level ≢ held.now.level) }

@@ -8,20 +8,21 @@ use craig_base::Lit;
 use std::alloc::Global;
 use std::collections::BinaryHeap;
 
-// A clause of false literals: the negations of the literals at the pending places of the trail, and the literals
-// that are kept. Each variable that came in once is marked, so a literal comes in once.
+/// A clause of false literals: the negations of the literals at the pending places of the trail, and the literals
+/// of lower levels. Each variable that came in once is marked, so a literal comes in once.
 #[derive(Drop)]
 pub struct Resolvent {
+    /// The variables that were met.
     pub variables: Marks,
-    // the places of the literals of level 0 and of the present level, which are to be resolved on
+    /// The places on the trail of the literals of level 0 and of the present level, which are to be resolved on.
     pub pending: BinaryHeap<usize>,
-    // the literals of the levels between
+    /// The literals of the levels between, which stay.
     pub lower: Vec<Lit>,
     ghost ordered: { IsHeap nat_cmp (heap_items pending) } by { Prim.hlevel props },
 }
 
 impl Resolvent {
-    // The clause without literals, which takes no memory.
+    /// The clause without literals, which takes no memory.
     pub(crate) fn new(alloc: Global) -> Resolvent {
         Resolvent {
             variables: Marks::new(alloc),

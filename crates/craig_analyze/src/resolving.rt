@@ -12,7 +12,7 @@ use craig_watch::Held;
 use std::alloc::AllocError;
 
 impl Resolvent {
-    // Resolves back along the trail until one pending literal is left of the levels above 0, which is given.
+    /// Resolves back along the trail until one pending literal is left of the levels above 0, which is given.
     pub(crate) fn find_asserting(
         &mut self,
         held: &Held,
@@ -32,7 +32,7 @@ impl Resolvent {
         Ok(held.trail()[place].not())
     }
 
-    // Resolves all pending literals away, which are of level 0.
+    /// Resolves all pending literals away, which are of level 0.
     pub(crate) fn resolve_root(&mut self, held: &Held, steps: &mut Steps) -> Result<(), AllocError>
         requires consistent { IsConsistent held.now }
         requires unresolved { (bound : ℕ) × IsUnresolved held.now bound (view_of self.old) }
@@ -46,32 +46,32 @@ impl Resolvent {
         Ok(())
     }
 
-    // Resolves with the reason of the literal at a place that was taken out.
+    /// Resolves with the reason of the literal at a place that was taken out.
     fn resolve_on(&mut self, held: &Held, steps: &mut Steps, place: usize) -> Result<(), AllocError>
         requires { IsResolvable held.now place (view_of self.old) }
         ensures { OnOk result (HasResolved held.now place (chain_of steps.old) (chain_of steps.new) (view_of self.old) (view_of self.new)) }
     {
         let lit = held.trail()[place];
         let Some(antecedent) = held.reason(lit.var()) else {
-            return Ok(());
+            unreachable!();
         };
         let pivot = lit.not();
         steps.push(Step { pivot, antecedent })?;
         self.meet(held, antecedent)
     }
 
-    // Takes the greatest pending place out.
+    /// Takes the greatest pending place out.
     fn take_greatest(&mut self) -> usize
         requires { 0 < heap_len self.old.pending }
         ensures { IsGreatestTaken result (view_of self.old) (view_of self.new) }
     {
         match self.pending.pop() {
             Some(place) => place,
-            None => 0,
+            None => unreachable!(),
         }
     }
 
-    // Whether all pending places are of level 0.
+    /// Whether all pending places are of level 0.
     fn is_at_root(&self, held: &Held) -> bool
         requires { All (λ p. p < length held.now.trail) (heap_items self.now.pending) }
         ensures root { result ≡ true → All (λ p. (at_place held.now.trail p).level ≡ 0) (heap_items self.now.pending) }
@@ -84,7 +84,7 @@ impl Resolvent {
     }
 }
 
-// The level of the literal at a place of the trail.
+/// The level of the literal at a place of the trail.
 fn level_at_place(held: &Held, place: usize) -> u32
     requires { place < length held.now.trail }
     ensures level { result ≡ (at_place held.now.trail place).level }

@@ -1,3 +1,4 @@
+//! The order in which free variables are decided: for now that of their numbers, of no other source.
 ghost use Rattle.std.specs.Prelude.{◌≡◌, ◌≢◌, ℕ, ◌<◌, ◌≤◌, true, false, None, IfSome, OnOk, OnErr, IsErr, length};
 ghost use Rattle.craig_watch.specs.Trail.{value_under};
 ghost use Rattle.craig_watch.specs.declared.value.Value.TheVariants.{Free};

@@ -45,7 +45,7 @@ IsState-grown s n p vars state is ok grown =
       };
       consistent = subst IsConsistent is ok;
       held_alive = state.held_alive;
-      order_alive = grown.alive ∙ state.order_alive;
+      order_alive = grown.dead ∙ state.order_alive;
       clauses = held-grown s.accepted s.held vars state.clauses;
       ids = state.ids;
       originals = state.originals;

@@ -1,6 +1,7 @@
 -- False clauses above level 0, and the asserting clauses that are learnt from them.
 use Rattle.std.proofs.Common.{◌≡◌, ◌≢◌, ◌⊎◌, inl, inr, ℕ, suc, zero, ◌-◌, ◌<◌, ◌≤◌, ◌∷◌, length, get_or, take, All, Contains, Some, refl, sym, ap, subst, ◌∙◌, arith}
 use Rattle.std.proofs.lemmas.Bool.Decides.{leb_tells}
+use Rattle.std.proofs.lemmas.List.Elements.{All-contains}
 use Rattle.craig_spec.specs.Literal.{Literal, Clause, negation}
 use Rattle.craig_base.specs.LemmaRule.{ContainsClause}
 use Rattle.craig_base.specs.declared.clause_id.ClauseId.{ClauseId}
@@ -9,7 +10,6 @@ use Rattle.craig_watch.specs.declared.value.Value.TheVariants.{True, False, Free
 use Rattle.craig_watch.specs.Trail.{Trail, value_under, IsFalse, part_up_to, level_at}
 use Rattle.craig_watch.specs.Held.{HeldView, held_clause, IsSettled, IsConsistent, MayBeHeld}
 use Rattle.craig_watch.proofs.TrailLemmas.{value_under-part}
-use Rattle.craig_watch.proofs.HeldLemmas.{All-member}
 use Rattle.craig_watch.proofs.PlacesLemmas.{place-found, place-false, entry-false, IsFalse-take}
 use Rattle.craig_watch.proofs.LevelsLemmas.{levels-present, level_at-entry, entry_of-part_kept, value_under-part_kept, value_under-part_above}
 
@@ -43,10 +43,10 @@ not_true-part t l m falsified is =
 
 -- a held clause that is false above level 0 has two literals of the present level
 two-present : (h : HeldView) (c : Clause) → IsConsistent h → 0 < h.level → All (IsFalse h.trail) c → IsSettled (part_up_to (h.level - 1) h.trail) c → (l m : Literal) × Contains c l × Contains c m × (l ≢ m) × (level_at h.trail l ≡ h.level) × (level_at h.trail m ≡ h.level)
-two-present h c ok above falsified (inl (m, has, is)) = absurd (not_true-part h.trail (h.level - 1) m (All-member (IsFalse h.trail) c m falsified has) is)
+two-present h c ok above falsified (inl (m, has, is)) = absurd (not_true-part h.trail (h.level - 1) m (All-contains (IsFalse h.trail) c m falsified has) is)
 two-present h c ok above falsified (inr (l, m, has_l, has_m, differ, free_l, free_m)) =
-    let false_l : IsFalse h.trail l = All-member (IsFalse h.trail) c l falsified has_l in
-    let false_m : IsFalse h.trail m = All-member (IsFalse h.trail) c m falsified has_m in
+    let false_l : IsFalse h.trail l = All-contains (IsFalse h.trail) c l falsified has_l in
+    let false_m : IsFalse h.trail m = All-contains (IsFalse h.trail) c m falsified has_m in
     let over_l : h.level - 1 < level_at h.trail l = false-level h l (h.level - 1) ok false_l free_l in
     let over_m : h.level - 1 < level_at h.trail m = false-level h m (h.level - 1) ok false_m free_m in
     let low_l : level_at h.trail l ≤ h.level = level_at-present h l ok false_l in
@@ -75,7 +75,7 @@ free-is_first h first rest m ok falsified low (inr here) free = absurd (let no :
 
 new-cases : (h : HeldView) (first : Literal) (rest c : Clause) → IsConsistent h → All (IsFalse h.trail) (first ∷ rest) → All (λ m. level_at h.trail m < h.level) rest → ContainsClause (first ∷ rest) c → ¬ IsSettled (part_up_to (h.level - 1) h.trail) c
 new-cases h first rest c ok falsified low contains (inl (m, has, is)) =
-    not_true-part h.trail (h.level - 1) m (All-member (IsFalse h.trail) (first ∷ rest) m falsified (contains m has)) is
+    not_true-part h.trail (h.level - 1) m (All-contains (IsFalse h.trail) (first ∷ rest) m falsified (contains m has)) is
 new-cases h first rest c ok falsified low contains (inr (l, m, has_l, has_m, differ, free_l, free_m)) =
     let one : l ≡ first = free-is_first h first rest l ok falsified low (member-cases first rest l (contains l has_l)) free_l in
     let two : m ≡ first = free-is_first h first rest m ok falsified low (member-cases first rest m (contains m has_m)) free_m in
@@ -99,7 +99,7 @@ back-cases h first rest back ok falsified above low (inr (last, has, at)) =
     let same : level_at h.trail m ≡ f.0.level = level_at-entry h.trail m f.0 f.1 in
     let le : level_at h.trail m ≤ back = low k d w in
     value_under-part_kept back h.trail m f.0 ok.levels f.1 (omega arith) ∙ is in
-    let last_false : IsFalse h.trail last = All-member (IsFalse h.trail) rest last (λ k d w. falsified (suc k) d (omega arith)) has in
+    let last_false : IsFalse h.trail last = All-contains (IsFalse h.trail) rest last (λ k d w. falsified (suc k) d (omega arith)) has in
     let g = entry-false h.trail last last_false in
     let last_same : level_at h.trail last ≡ g.0.level = level_at-entry h.trail last g.0 g.1 in
     inr (inr (record {

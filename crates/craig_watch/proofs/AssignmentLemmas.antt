@@ -1,9 +1,10 @@
 -- The assignment that a trail is, once every variable of the clauses has a value.
-use Rattle.std.proofs.Common.{◌≡◌, ◌≢◌, inl, inr, ℕ, suc, zero, ◌<◌, Bool, true, false, cond, not, ◌||◌, eqb, [], ◌∷◌, length, get_or, map, Contains, Some, None, refl, sym, ap, ◌∙◌, arith, eqb-true, eq-eqb, ne_eqb}
+use Rattle.std.proofs.Common.{◌≡◌, ◌≢◌, inl, inr, ℕ, suc, ◌<◌, Bool, true, false, cond, not, eqb, [], ◌∷◌, length, get_or, map, Contains, Some, None, refl, sym, ap, ◌∙◌, arith, eqb-true, eq-eqb, ne_eqb}
 use Rattle.std.specs.List.{filter}
 use Rattle.std.proofs.lemmas.Bool.{eqb-false}
 use Rattle.craig_spec.specs.Literal.{Literal, Clause}
 use Rattle.craig_spec.specs.Truth.{Assignment, IsModel, variable_value, literal_value, clause_value}
+use Rattle.craig_spec.proofs.ClauseLemmas.{clause_value-member}
 use Rattle.craig_base.specs.Arena.{ArenaView, IsArena, clauses_of, literals_of}
 use Rattle.craig_watch.specs.declared.trail_entry.TrailEntry.{TrailEntry}
 use Rattle.craig_watch.specs.declared.value.Value.TheVariants.{True, Free}
@@ -52,15 +53,6 @@ pub literal_value-true : (t : Trail) (l : Literal) → AreDistinct t → value_u
 literal_value-true t l apart is =
     let e = entry-true t l is in
     signs l.negated (variable_value (assignment_of t) l.var) (variable_value-found t l.var e.0 apart e.1 ∙ ap (λ (m : Literal). not m.negated) e.2)
-
-or-true : (b : Bool) → (b || true) ≡ true
-or-true true = refl
-or-true false = refl
-
-clause_value-member : (s : Assignment) (c : Clause) (l : Literal) → Contains c l → literal_value s l ≡ true → clause_value s c ≡ true
-clause_value-member s [] l (k, within, at) is = absurd (omega arith)
-clause_value-member s (m ∷ c) l (zero, within, at) is = rw (at, is) refl
-clause_value-member s (m ∷ c) l (suc k, within, at) is = rw (clause_value-member s c l (k, omega arith, at) is) (or-true (literal_value s m))
 
 settled-true : (t : Trail) (c : Clause) → AreDistinct t → IsSettled t c → ((l : Literal) → Contains c l → value_under t l ≢ Free) → clause_value (assignment_of t) c ≡ true
 settled-true t c apart (inl (l, has, is)) assigned = clause_value-member (assignment_of t) c l has (literal_value-true t l apart is)

@@ -5,9 +5,9 @@ use Rattle.std.proofs.lemmas.List.{length_push, length-set, get_or_append_left, 
 use Rattle.std.proofs.Common.{eqb, eqb-true, Bool, cond}
 use Rattle.std.proofs.lemmas.Bool.{eqb-false}
 use Rattle.craig_watch.specs.declared.trail_entry.TrailEntry.{TrailEntry}
-use Rattle.craig_watch.specs.Trail.{Trail, entry_of, AreDistinct}
+use Rattle.craig_watch.specs.Trail.{any_entry, Trail, entry_of, AreDistinct}
 use Rattle.craig_watch.specs.HeldFields.{ArePlaces}
-use Rattle.craig_watch.proofs.TrailLemmas.{any_entry, entry_of-absent, entry_of-at, absent-entry_of, get_or-last}
+use Rattle.craig_watch.proofs.TrailLemmas.{entry_of-absent, entry_of-at, absent-entry_of, get_or-last}
 
 -- a variable without a place is not assigned
 pub entry_of-no_place : (places : List (Option ℕ)) (t : Trail) (v : ℕ) (n : Option ℕ) → ArePlaces places t → get_or places v n ≡ None → entry_of t v ≡ None

@@ -7,7 +7,7 @@ use Rattle.std.proofs.lemmas.Grind.{common_steps}
 use Rattle.std.proofs.lemmas.List.{length_push, get_or_append_left}
 use Rattle.std.proofs.lemmas.Bool.Decides.{leb_tells}
 use Rattle.std.proofs.lemmas.List.Sums.{count_by-le-length}
-use Rattle.std.proofs.lemmas.List.Elements.{All-push}
+use Rattle.std.proofs.lemmas.List.Elements.{All-contains, All-push}
 use Rattle.std.proofs.lemmas.List.Quantifiers.{all_pairs_push}
 use Rattle.craig_spec.specs.Literal.{Literal, Clause}
 use Rattle.craig_base.specs.declared.clause_id.ClauseId.{ClauseId}
@@ -18,7 +18,7 @@ use Rattle.craig_watch.specs.declared.value.Value.{Value}
 use Rattle.craig_watch.specs.declared.value.Value.TheVariants.{True, False, Free}
 use Rattle.craig_watch.specs.Trail.{Trail, value_under, IsFalse, part_up_to, decisions, AreLevels}
 use Rattle.craig_watch.specs.Held.{HeldView, held_clause, IsSettled, IsComplete, IsCompleteBelow, Forces, IsJustified, AreClauses, IsConsistent, with_entry, HasTwoNotFalse, IsAsserting, MayBeHeld, IsTaken}
-use Rattle.craig_watch.proofs.TrailLemmas.{entry_of-free, absent-entry_of, value_under-part, value_under-part_free, value_under-absent, entry_of-part_above, part_up_to-push, part_up_to-whole, each_push, each_popped, AreLevels-push, AreLevels-popped, levels-bounded, level-last, length-le_from_known, decisions-push}
+use Rattle.craig_watch.proofs.TrailLemmas.{at_most_one, entry_of-free, absent-entry_of, value_under-part, value_under-part_free, value_under-absent, entry_of-part_above, part_up_to-push, part_up_to-whole, each_push, each_popped, AreLevels-push, AreLevels-popped, levels-bounded, level-last, length-le_from_known, decisions-push}
 
 -- another arena under the same trail
 pub IsConsistent-arena : (h : HeldView) (a : ArenaView) (dead : Bool) → IsConsistent h → IsArena a → AreClauses a h.vars → IsCompleteBelow a h.trail h.level → ((k : ℕ) (d : TrailEntry) (id : ClauseId) (c : Clause) → k < length h.trail → (get_or h.trail k d).reason ≡ Some id → held_clause h.arena id.0 ≡ Some c → held_clause a id.0 ≡ Some c) → IsConsistent (record { arena = a; vars = h.vars; trail = h.trail; level = decisions h.trail; dead = dead })
@@ -100,15 +100,12 @@ Contains-first l c = (0, omega arith, refl)
 Contains-later : (l : Literal) (c : Clause) (m : Literal) → Contains c m → Contains (l ∷ c) m
 Contains-later l c m (k, within, is) = (suc k, omega arith, is)
 
-pub All-member : (P : Literal → Type 0) (c : Clause) (l : Literal) → All P c → Contains c l → P l
-All-member P c l h (k, within, is) = subst P is (h k l within)
-
 -- a clause that may be held is settled at each lower level
 settled-asserting : (t : Trail) (level l : ℕ) (c : Clause) → IsAsserting t level c → l < level → IsSettled (part_up_to l t) c
 settled-asserting t level l c h below =
     let has_first : Contains c h.first = subst (λ (x : Clause). Contains x h.first) (sym h.parts) (Contains-first h.first h.rest) in
     let has_last : Contains c h.last = subst (λ (x : Clause). Contains x h.last) (sym h.parts) (Contains-later h.first h.rest h.last h.has_last) in
-    let last_false : value_under t h.last ≡ False = All-member (IsFalse t) h.rest h.last h.others h.has_last in
+    let last_false : value_under t h.last ≡ False = All-contains (IsFalse t) h.rest h.last h.others h.has_last in
     let differ : h.first ≢ h.last = λ e. (let no : Free ≡ False = sym h.free ∙ ap (value_under t) e ∙ last_false in cc) in
     let high : l < h.last_entry.level = rw h.last_level below in
     let last_free : value_under (part_up_to l t) h.last ≡ Free = value_under-absent (part_up_to l t) h.last (entry_of-part_above l t h.last.var h.last_entry h.last_is high) in
@@ -269,13 +266,9 @@ decisions-forced h l n id ok =
 pub IsConsistent-forced : (h : HeldView) (l : Literal) (n : ℕ) (id : ClauseId) (c : Clause) → IsConsistent h → held_clause h.arena id.0 ≡ Some c → Forces h.trail c l → value_under h.trail l ≡ Free → n ≡ h.level → IsConsistent (with_entry h (forced l n id))
 IsConsistent-forced h l n id c ok held forces free level =
     let same : decisions (h.trail ++ forced l n id ∷ []) ≡ h.level = decisions-forced h l n id ok in
-    IsConsistent-push h (forced l n id) ok (All-member (λ m. m.var < h.vars) c l (ok.clauses id.0 c held).1 forces.has) free
+    IsConsistent-push h (forced l n id) ok (All-contains (λ m. m.var < h.vars) c l (ok.clauses id.0 c held).1 forces.has) free
     (λ r is. let e : id ≡ r = cc in (c, subst (λ (x : ClauseId). held_clause h.arena x.0 ≡ Some c) e held, forces))
     (level ∙ sym same) (λ m w. ok.complete m (omega arith))
-
-at_most_one : (b : Bool) → cond b 1 0 ≤ 1
-at_most_one true = omega arith
-at_most_one false = omega arith
 
 -- going back by one literal above the level
 taken-last_level : (old new : HeldView) → IsConsistent old → (taken : IsTaken old new) → (taken.last.level ≡ old.level) × (old.level ≡ decisions new.trail + cond (is_none taken.last.reason) 1 0)

@@ -1,9 +1,9 @@
-mod TrailLemmas
+pub mod TrailLemmas
 mod HeldFieldsLemmas
 mod HeldLemmas
 mod StoredLemmas
 mod StandingLemmas
-mod PlacesLemmas
-mod LevelsLemmas
+pub mod PlacesLemmas
+pub mod LevelsLemmas
 mod AssertingLemmas
-mod AssignmentLemmas
+pub mod AssignmentLemmas

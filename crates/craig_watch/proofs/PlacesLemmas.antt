@@ -65,11 +65,13 @@ signs-false true false h = refl
 signs-false false true h = refl
 signs-false false false h = absurd (let no : True ≡ False = h in cc)
 
-beside-itself : (b : Bool) → cond b (cond b True False) (cond b False True) ≡ True
+-- the value beside the literal itself
+pub beside-itself : (b : Bool) → cond b (cond b True False) (cond b False True) ≡ True
 beside-itself true = refl
 beside-itself false = refl
 
-beside-negation : (b : Bool) → cond (not b) (cond b True False) (cond b False True) ≡ False
+-- and beside its negation
+pub beside-negation : (b : Bool) → cond (not b) (cond b True False) (cond b False True) ≡ False
 beside-negation true = refl
 beside-negation false = refl
 

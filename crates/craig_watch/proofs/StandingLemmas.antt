@@ -1,12 +1,12 @@
 -- How clauses stand, and what a walk over them leaves.
-use Rattle.std.proofs.Common.{◌≡◌, ◌≢◌, inl, inr, ℕ, suc, ◌+◌, ◌<◌, ◌≤◌, Bool, true, false, cond, eqb, List, [], ◌∷◌, ◌++◌, length, get_or, take, All, AllPairs, Contains, Option, Some, None, IsSome, refl, sym, ap, subst, ◌∙◌, add-one, arith, eqb-true}
-use Rattle.std.specs.Option.{option_map, option_map_or, is_some}
+use Rattle.std.proofs.Common.{◌≡◌, ◌≢◌, inl, inr, ℕ, suc, ◌+◌, ◌<◌, ◌≤◌, Bool, true, false, cond, eqb, List, [], ◌∷◌, ◌++◌, length, get_or, take, All, AllPairs, Option, Some, None, IsSome, refl, sym, ap, subst, ◌∙◌, add-one, arith, eqb-true}
+use Rattle.std.specs.Option.{option_map, is_some}
 use Rattle.std.proofs.lemmas.Bool.Decides.{leb_tells}
-use Rattle.std.proofs.lemmas.List.{append-nil, append_assoc, length_push, take_all, get_or_append_left, get_or_default, get_or-take, length-take-le}
-use Rattle.std.proofs.lemmas.List.Elements.{All-push, All-append, Contains-push, Contains-push_cases}
+use Rattle.std.proofs.lemmas.List.{append-nil, append_assoc, take_all, get_or_default, get_or-take, length-take-le}
+use Rattle.std.proofs.lemmas.List.Elements.{All-push, All-append, All-contains, Contains-append_left, Contains-push, Contains-push_cases}
 use Rattle.std.proofs.Math.Seq.{take-suc}
 use Rattle.craig_spec.specs.Literal.{Literal, Clause}
-use Rattle.craig_base.specs.Arena.{ArenaView, FlaggedClause, LiveClause, IsArena, IsLive, clause_of, clause_at, literals_at, OnlyReorders}
+use Rattle.craig_base.specs.Arena.{ArenaView, LiveClause, IsArena, clause_of, OnlyReorders}
 use Rattle.craig_watch.specs.declared.trail_entry.TrailEntry.{TrailEntry}
 use Rattle.craig_watch.specs.declared.value.Value.{Value}
 use Rattle.craig_watch.specs.declared.value.Value.TheVariants.{False, Free}
@@ -14,18 +14,6 @@ use Rattle.craig_watch.specs.Trail.{Trail, value_under, IsFalse}
 use Rattle.craig_watch.specs.Held.{HeldView, held_clause, IsSettled, IsComplete, IsConsistent, IsLengthened}
 use Rattle.craig_watch.specs.Standing.{HasSeen, IsSettledAt, IsLonger, HasWalked, AddsForced}
 use Rattle.craig_watch.proofs.TrailLemmas.{length-le_from_known}
-use Rattle.craig_watch.proofs.HeldLemmas.{All-member}
-
--- the literals of a live clause
-live-literals : (o : Option FlaggedClause) → IsSome o → option_map (λ f. f.literals) o ≡ Some (option_map_or (λ f. f.literals) o [])
-live-literals None live = absurd (let no : false ≡ true = live in cc)
-live-literals (Some f) live = refl
-
-pub held_clause-live : (a : ArenaView) (id : ℕ) → IsLive a id → held_clause a id ≡ Some (literals_at a id)
-held_clause-live a id live = live-literals (clause_at a id) live
-
-pub same_clause : (c d : Clause) → Some c ≡ Some d → c ≡ d
-same_clause c d is = cc
 
 -- ids of held clauses were given
 below-cases : (b : Bool) (c : LiveClause) (cs : List LiveClause) (id n : ℕ) (f : Clause) → eqb c.id id ≡ b → c.id < n → option_map (λ g. g.literals) (cond b (Some c.clause) (clause_of cs id)) ≡ Some f → (option_map (λ g. g.literals) (clause_of cs id) ≡ Some f → id < n) → id < n
@@ -40,14 +28,11 @@ pub held_clause-below : (a : ArenaView) (id : ℕ) (c : Clause) → IsArena a �
 held_clause-below a id c arena held = clause_of-below a.clauses id a.given c arena.below held
 
 -- one literal more was seen
-Contains-before : (c : Clause) (x l : Literal) → Contains c l → Contains (c ++ x ∷ []) l
-Contains-before c x l (k, within, is) = let long : length (c ++ x ∷ []) ≡ length c + 1 = length_push c x in (k, omega arith, get_or_append_left c (x ∷ []) l k within ∙ is)
-
 seen-false : (t : Trail) (seen : Clause) (x : Literal) (free : Option Literal) → HasSeen t seen free → IsFalse t x → HasSeen t (seen ++ x ∷ []) free
 seen-false t seen x None h falsified = All-push (IsFalse t) seen x h falsified
 seen-false t seen x (Some l) h falsified = (
   record {
-    has = Contains-before seen x l h.0.has;
+    has = Contains-append_left seen (x ∷ []) l h.0.has;
     others = λ m has ne. elim (Contains-push_cases seen x m has) [ inl old ↦ h.0.others m old ne | inr same ↦ subst (IsFalse t) same falsified ];
   },
   h.1,
@@ -57,7 +42,7 @@ seen-free : (t : Trail) (seen : Clause) (x : Literal) → All (IsFalse t) seen �
 seen-free t seen x h free = (
   record {
     has = Contains-push seen x;
-    others = λ m has ne. elim (Contains-push_cases seen x m has) [ inl old ↦ All-member (IsFalse t) seen m h old | inr same ↦ absurd (ne (sym same)) ];
+    others = λ m has ne. elim (Contains-push_cases seen x m has) [ inl old ↦ All-contains (IsFalse t) seen m h old | inr same ↦ absurd (ne (sym same)) ];
   },
   free,
 )

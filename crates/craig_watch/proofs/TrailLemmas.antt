@@ -1,5 +1,5 @@
 -- Trails: what the entries of variables and the parts up to a level are.
-use Rattle.std.proofs.Common.{◌≡◌, ◌≢◌, ◌⊎◌, inl, inr, ℕ, suc, zero, ◌+◌, ◌*◌, ◌<◌, ◌≤◌, Bool, true, false, cond, eqb, leb, List, [], ◌∷◌, ◌++◌, length, get_or, take, All, AllPairs, Option, Some, None, refl, map, is_none, sym, ap, subst, ◌∙◌, arith, ne_eqb, eqb-true, leb-true, leb-false}
+use Rattle.std.proofs.Common.{◌≡◌, ◌≢◌, ◌⊎◌, inl, inr, ℕ, suc, zero, ◌+◌, ◌<◌, ◌≤◌, Bool, true, false, cond, eqb, leb, List, [], ◌∷◌, ◌++◌, length, get_or, take, All, AllPairs, Option, Some, None, refl, map, is_none, sym, ap, subst, ◌∙◌, arith, ne_eqb, eqb-true, leb-true, leb-false}
 use Rattle.std.specs.List.{list_any}
 use Rattle.std.specs.Option.{option_map_or}
 use Rattle.std.proofs.lemmas.Grind.{common_steps}
@@ -16,10 +16,7 @@ use Rattle.craig_spec.specs.Literal.{Literal}
 use Rattle.craig_watch.specs.declared.trail_entry.TrailEntry.{TrailEntry}
 use Rattle.craig_watch.specs.declared.value.Value.{Value}
 use Rattle.craig_watch.specs.declared.value.Value.TheVariants.{True, False, Free}
-use Rattle.craig_watch.specs.Trail.{Trail, entry_of, value_beside, value_under, part_up_to, decisions, AreLevels, AreDistinct}
-
-pub any_entry : TrailEntry
-any_entry = record { literal = record { var = 0; negated = false }; level = 0; reason = None }
+use Rattle.craig_watch.specs.Trail.{Trail, any_entry, entry_of, value_beside, value_under, part_up_to, decisions, AreLevels, AreDistinct}
 
 -- a variable of no entry
 pub entry_of-absent : (t : Trail) (v : ℕ) → ((k : ℕ) (d : TrailEntry) → k < length t → (get_or t k d).literal.var ≢ v) → entry_of t v ≡ None
@@ -97,8 +94,8 @@ pub part_up_to-twice : (l m : ℕ) (t : Trail) → l ≤ m → part_up_to l (par
 part_up_to-twice l m [] le = refl
 part_up_to-twice l m (e ∷ t) le = part_twice-cases (leb e.level m) (leb e.level l) l m e t refl refl le (part_up_to-twice l m t le)
 
--- an assigned literal isn't free
-beside-cases : (a b : Bool) → cond a (cond b True False) (cond b False True) ≢ Free
+-- an assigned literal isn't free, by its sign and that of the entry
+pub beside-cases : (a b : Bool) → cond a (cond b True False) (cond b False True) ≢ Free
 beside-cases true true e = let no : True ≡ Free = e in cc
 beside-cases true false e = let no : False ≡ Free = e in cc
 beside-cases false true e = let no : False ≡ Free = e in cc
@@ -164,7 +161,8 @@ each_popped P t e h k d w =
     subst (λ (u : Trail). P u (get_or t k d)) (take-append-le k t (e ∷ []) (omega arith))
     (subst (λ (f : TrailEntry). P (take k (t ++ e ∷ [])) f) (get_or_append_left t (e ∷ []) d k w) (h k d (omega arith)))
 
-decisions-one : (e : TrailEntry) → decisions (e ∷ []) ≡ cond (is_none e.reason) 1 0
+-- the decisions of one entry
+pub decisions-one : (e : TrailEntry) → decisions (e ∷ []) ≡ cond (is_none e.reason) 1 0
 decisions-one e = grind (arith, common_steps)
 
 -- a decision is one more, and no other entry is
@@ -208,8 +206,12 @@ pairs-map t apart i j d before within e =
     let at_j : get_or (map (λ (e : TrailEntry). e.literal.var) t) j d ≡ (get_or t j any_entry).literal.var = get_or-map (λ (e : TrailEntry). e.literal.var) t j any_entry d (omega arith) in
     apart i j any_entry before (omega arith) (sym at_i ∙ e ∙ at_j)
 
+pub at_most_one : (b : Bool) → cond b 1 0 ≤ 1
+at_most_one true = omega arith
+at_most_one false = omega arith
+
 -- a member of numbers below a bound is below it
-member-below : (n : ℕ) (xs : List ℕ) (q : ℕ) → All (λ x. x < n) xs → list_any (eqb q) xs ≡ true → q < n
+pub member-below : (n : ℕ) (xs : List ℕ) (q : ℕ) → All (λ x. x < n) xs → list_any (eqb q) xs ≡ true → q < n
 member-below n xs q small is =
     let m = Any-from_list_any (eqb q) xs is in
     let low : get_or xs m.0 m.1 < n = small m.0 m.1 m.2 in

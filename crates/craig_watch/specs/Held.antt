@@ -8,12 +8,17 @@ use Rattle.craig_watch.specs.declared.trail_entry.TrailEntry.{TrailEntry}
 use Rattle.craig_watch.specs.declared.value.Value.TheVariants.{True, False, Free}
 use Rattle.craig_watch.specs.Trail.{Trail, entry_of, value_under, IsFalse, part_up_to, decisions, AreLevels, AreDistinct}
 
--- the clauses, how many variables are known, the trail, the present level, and whether memory was refused
+-- what contracts see of held clauses and their trail
 pub record HeldView : Type 0 where
+  -- the held clauses
   pub arena : ArenaView
+  -- how many variables are known: they are those below it
   pub vars : ℕ
+  -- the literals that are assigned
   pub trail : Trail
+  -- the present decision level
   pub level : ℕ
+  -- whether memory was refused
   pub dead : Bool
 
 -- the literals of the clause that is held under the id
@@ -42,7 +47,9 @@ IsCompleteBelow a t level = (l : ℕ) → l < level → IsComplete a (part_up_to
 
 -- the clause has the literal, and its other literals are false under the trail
 pub record Forces (t : Trail) (c : Clause) (l : Literal) : Type 0 where
+  -- it has the literal
   pub has : Contains c l
+  -- the others are false
   pub others : (m : Literal) → Contains c m → m ≢ l → IsFalse t m
 
 -- the reason, if there is one, is held and forces the literal under what was assigned earlier
@@ -61,15 +68,21 @@ AreClauses a vars = (id : ℕ) (c : Clause) → held_clause a id ≡ Some c → 
 pub record IsConsistent (h : HeldView) : Type 0 where
   -- the literals of each variable fit their type
   pub few : h.vars ≤ 2147483648
+  -- the clauses are stored by rising ids
   pub arena : IsArena h.arena
+  -- the clauses are normal clauses over known variables
   pub clauses : AreClauses h.arena h.vars
+  -- only known variables are assigned
   pub known : All (λ e. e.literal.var < h.vars) h.trail
   -- no variable is assigned twice
   pub distinct : AreDistinct h.trail
+  -- the level of each literal is the number of decisions up to it
   pub levels : AreLevels h.trail
   -- the present level is the number of decisions
   pub level : h.level ≡ decisions h.trail
+  -- each literal was decided or is forced by its reason
   pub justified : EachIsJustified h.arena h.trail
+  -- propagation was complete at every lower level
   pub complete : IsCompleteBelow h.arena h.trail h.level
 
 -- one literal more on the trail
@@ -86,36 +99,57 @@ HasTwoNotFalse t c = (l m : Literal) × Contains c l × Contains c m × (l ≢ m
 
 -- the first literal is free, all others are false, and one of them was assigned at the level
 pub record IsAsserting (t : Trail) (level : ℕ) (c : Clause) : Type 0 where
+  -- the first literal
   pub first : Literal
+  -- the others
   pub rest : Clause
+  -- they are the clause
   pub parts : c ≡ first ∷ rest
+  -- the first is free
   pub free : value_under t first ≡ Free
+  -- the others are false
   pub others : All (IsFalse t) rest
+  -- one of them was assigned last
   pub last : Literal
+  -- it is one of the others
   pub has_last : Contains rest last
+  -- the entry that makes it false
   pub last_entry : TrailEntry
+  -- the entry is that of its variable
   pub last_is : entry_of t last.var ≡ Some last_entry
+  -- the level of the entry is the given one
   pub last_level : last_entry.level ≡ level
 
 -- a clause that may be held: it breaks no level below the present one
 abbrev pub MayBeHeld : HeldView → Clause → Type 0
 MayBeHeld h c = (h.level ≡ 0) ⊎ (HasTwoNotFalse h.trail c ⊎ IsAsserting h.trail h.level c)
 
--- the trail was lengthened by literals of the present level that clauses forced; the clauses are the same but for the order of their literals
+-- the trail was lengthened by literals of the present level that clauses forced
 pub record IsLengthened (old new : HeldView) : Type 0 where
+  -- the clauses are the same but for the order of their literals
   pub clauses : OnlyReorders old.arena new.arena
+  -- the known variables are the same
   pub vars : new.vars ≡ old.vars
+  -- the present level is the same
   pub present : new.level ≡ old.level
+  -- it is dead where it was dead
   pub dead : new.dead ≡ old.dead
+  -- the entries that came
   pub added : Trail
+  -- they stand last on the trail
   pub trail : new.trail ≡ old.trail ++ added
+  -- they are of the present level
   pub level : All (λ e. e.level ≡ old.level) added
+  -- clauses forced them
   pub reason : All (λ e. IsSome e.reason) added
 
--- memory was refused: the clauses are the same but for the order of their literals, and nothing is said of the trail
+-- memory was refused, and nothing is said of the trail
 pub record IsRefused (old new : HeldView) : Type 0 where
+  -- the clauses are the same but for the order of their literals
   pub clauses : OnlyReorders old.arena new.arena
+  -- the known variables are the same
   pub vars : new.vars ≡ old.vars
+  -- it is dead
   pub dead : new.dead ≡ true
 
 -- the clause is held, and all its literals are false
@@ -124,6 +158,9 @@ IsFalsified h id = (c : Clause) × (held_clause h.arena id ≡ Some c) × All (I
 
 -- the last literal is gone from the trail
 pub record IsTaken (old new : HeldView) : Type 0 where
+  -- the entry that is gone
   pub last : TrailEntry
+  -- it stood last
   pub trail : old.trail ≡ new.trail ++ last ∷ []
+  -- the level is that of what is left, and all else is the same
   pub rest : new ≡ record old { trail = new.trail; level = decisions new.trail }

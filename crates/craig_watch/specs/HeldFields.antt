@@ -13,7 +13,11 @@ pub record ArePlaces (places : List (Option ℕ)) (t : Trail) : Type 0 where
 
 -- the fields show one trail, and have room for every variable on it
 pub record IsStored (literals : List Literal) (entries : Trail) (places : List (Option ℕ)) (literal_room entry_room : ℕ) : Type 0 where
+  -- the literals are those of the entries
   pub same : literals ≡ map (λ e. e.literal) entries
+  -- the table has the places of the variables
   pub table : ArePlaces places entries
+  -- a literal of each variable fits into the one list
   pub literals_fit : length places ≤ literal_room
+  -- and its entry into the other
   pub entries_fit : length places ≤ entry_room

@@ -22,9 +22,13 @@ HasSeen t seen (Some l) = Forces t seen l × (value_under t l ≡ Free)
 
 -- all is the same but for literals of the present level that clauses forced, last on the trail
 pub record AddsForced (old new : HeldView) : Type 0 where
+  -- the entries that came
   pub added : Trail
+  -- they stand last on the trail, and all else is the same
   pub trail : new ≡ record old { trail = old.trail ++ added }
+  -- they are of the present level
   pub level : All (λ e. e.level ≡ old.level) added
+  -- clauses forced them
   pub reason : All (λ e. IsSome e.reason) added
 
 -- the clause of the id, if one is held, is settled

@@ -1,5 +1,5 @@
 -- Trails: the literals that are assigned, in the order in which they were assigned.
-use Rattle.std.specs.Prelude.{◌≡◌, ◌≢◌, ℕ, suc, ◌<◌, not, map, filter, AllPairs, List, [], ◌∷◌, Option, Some, None, IsSome, is_none, nat_eq, nat_le, length, take, count_by, slice_index_or, if◌then◌else◌}
+use Rattle.std.specs.Prelude.{◌≡◌, ◌≢◌, ℕ, suc, ◌<◌, false, not, map, filter, AllPairs, List, [], ◌∷◌, Option, Some, None, IsSome, is_none, nat_eq, nat_le, length, take, count_by, slice_index_or, if◌then◌else◌}
 use Rattle.std.specs.Option.{option_map_or}
 use Rattle.craig_spec.specs.Literal.{Literal}
 use Rattle.craig_spec.specs.Truth.{Assignment}
@@ -10,6 +10,10 @@ use Rattle.craig_watch.specs.declared.value.Value.TheVariants.{True, False, Free
 -- the literals that are true, each with its decision level and the clause that forced it, if any
 abbrev pub Trail : Type 0
 Trail = List TrailEntry
+
+-- an entry to name where a place has none
+abbrev pub any_entry : TrailEntry
+any_entry = record { literal = record { var = 0; negated = false }; level = 0; reason = None }
 
 -- the entry that assigns the variable
 abbrev pub entry_of : Trail → ℕ → Option TrailEntry

@@ -1,4 +1,8 @@
 //! Held clauses and their trail.
+//!
+//! A trail of literals with decision levels and reasons is that of Marques-Silva and Sakallah, "GRASP", IEEE
+//! Transactions on Computers 48, 1999, and its stack of assigned literals that of Eén and Sörensson, "An Extensible
+//! SAT-solver", SAT 2003.
 ghost use Rattle.std.specs.Prelude.{◌≡◌, ◌≢◌, ◌+◌, ◌<◌, ◌≤◌, [], ◌∷◌, ◌++◌, false, true, Some, None, All, IfOk, OnOk, OnErr, IsErr, length, map, max, nat_lt, slice_get};
 ghost use Rattle.std.specs.Option.{option_map};
 ghost use Rattle.craig_base.specs.Arena.{IsLive, ChangesClause, ChangesOnly, changed, clause_at, with_clause, with_id, without};
@@ -80,7 +84,7 @@ impl Held {
         Ok(())
     }
 
-    // Makes the variables below the number known. After an error all is as before.
+    /// Makes the variables below the number known. After an error all is as before.
     fn make_known(&mut self, vars: usize) -> Result<(), AllocError>
         requires more { self.old.vars ≤ vars }
         requires few { vars ≤ 2147483648 }
@@ -175,7 +179,7 @@ impl Held {
         });
     }
 
-    // Puts a literal last on the trail.
+    /// Puts a literal last on the trail.
     pub(crate) fn assign(&mut self, entry: TrailEntry)
         requires { IsConsistent (with_entry self.old entry) }
         ensures { self.new ≡ with_entry self.old entry }
@@ -198,7 +202,7 @@ impl Held {
         }
     }
 
-    // Takes the last literal from the trail.
+    /// Takes the last literal from the trail.
     fn take_last(&mut self)
         requires { 0 < length self.old.trail }
         ensures taken { IsTaken self.old self.new }
@@ -293,7 +297,7 @@ impl Held {
         self.trail.as_slice()
     }
 
-    // Whether memory was refused.
+    /// Whether memory was refused.
     pub(crate) fn is_dead(&self) -> bool
         ensures value { result ≡ self.now.dead }
         ensures consistent { IsConsistent self.now }
@@ -301,7 +305,7 @@ impl Held {
         self.dead
     }
 
-    // The entry that assigns a known variable.
+    /// The entry that assigns a known variable.
     fn entry(&self, var: Var) -> Option<TrailEntry>
         requires { var.0 < self.now.vars }
         ensures { result ≡ entry_of self.now.trail var.0 }

@@ -1,12 +1,14 @@
+//! What propagation has brought.
+
 use craig_base::ClauseId;
 
-// What a look at some clauses has brought.
+/// What a look at some clauses has brought.
 #[derive(Clone, Copy, Debug, PartialEq, Eq)]
 pub enum Progress {
-    // each of them is settled
+    /// Each of them is settled.
     Complete,
-    // literals were assigned
+    /// Literals were assigned.
     Assigned,
-    // all literals of this clause are false
+    /// All literals of this clause are false.
     Conflict(ClauseId),
 }

@@ -1,4 +1,7 @@
 //! Unit propagation by a plain walk over all held clauses until nothing changes.
+//!
+//! The rule is the unit rule of Davis, Logemann and Loveland, "A Machine Program for Theorem-Proving", Communications
+//! of the ACM 5, 1962. No literals are watched yet, as Moskewicz, Madigan, Zhao, Zhang and Malik do in "Chaff", DAC 2001.
 ghost use Rattle.std.specs.Prelude.{◌≡◌, ◌≢◌, ◌<◌, false, true, None, IfOk, IfSome, OnOk, OnErr, IsErr};
 ghost use Rattle.craig_base.specs.Arena.{IsLive, literals_at};
 ghost use Rattle.craig_watch.specs.Held.{IsComplete, IsConsistent, IsFalsified, IsLengthened, IsRefused};
@@ -38,7 +41,7 @@ impl Held {
         }
     }
 
-    // Looks at each clause once.
+    /// Looks at each clause once.
     fn walk(&mut self) -> Progress
         ensures looked { HasLooked (λ h. IsComplete h.arena h.trail) self.old self.new result }
         ensures consistent { IsConsistent self.new }
@@ -58,7 +61,7 @@ impl Held {
         }
     }
 
-    // Looks at the clause of the id, if one is held, and assigns the literal that it forces.
+    /// Looks at the clause of the id, if one is held, and assigns the literal that it forces.
     fn look(&mut self, id: ClauseId) -> Progress
         ensures looked { HasLooked (λ h. IsSettledAt h id.0) self.old self.new result }
         ensures consistent { IsConsistent self.new }
@@ -81,7 +84,7 @@ impl Held {
         }
     }
 
-    // How a held clause stands.
+    /// How a held clause stands.
     fn standing(&self, id: ClauseId) -> Standing
         requires { IsLive self.now.arena id.0 }
         ensures { StandsSo self.now.trail (literals_at self.now.arena id.0) result }
@@ -166,7 +169,7 @@ mod tests {
         Ok(())
     }
 
-    // Propagates and then decides the literal, where it may be decided.
+    /// Propagates and then decides the literal, where it may be decided.
     fn decide_next(held: &mut Held, lit: Lit) -> Result<bool, AllocError>
         ensures { held.new.vars ≡ held.old.vars }
     {
@@ -183,7 +186,7 @@ mod tests {
         Ok(true)
     }
 
-    // Holds the clause of the two literals, where the first is free and the second was made false at this level.
+    /// Holds the clause of the two literals, where the first is free and the second was made false at this level.
     fn hold_asserting(held: &mut Held, first: Lit, second: Lit) -> Result<bool, AllocError>
         requires first { first.var < held.old.vars }
         requires second { second.var < held.old.vars }

@@ -1,3 +1,5 @@
+//! The values of literals under a trail.
+
 /// What a trail says of a literal.
 #[derive(Clone, Copy, Debug, PartialEq, Eq)]
 pub enum Value {

@@ -1,10 +1,11 @@
 use Rattle.std.proofs.Common.{◌≡◌, ◌∷◌, ap, sym, subst, refl, ◌∙◌, length, map, All, Contains}
+use Rattle.std.proofs.lemmas.Option.{same_Some}
 use Rattle.craig_spec.specs.Literal.{Literal, Clause}
 use Rattle.craig_proof.specs.Tracer.{chain_of}
 use Rattle.craig_watch.specs.Trail.{IsAssigned, level_at}
 use Rattle.craig_analyze.specs.Learnt.{IsGreatestOf, IsNumberOfDifferent}
 use Rattle.craig_analyze.specs.Resolvent.{view_of}
-use Rattle.craig_analyze.proofs.LearntLemmas.{same_found, begun-present, learnt-derived, learnt-asserting, learnt-assigned, lower-assigned, lower-levels, learnt-false}
+use Rattle.craig_analyze.proofs.LearntLemmas.{begun-present, learnt-derived, learnt-asserting, learnt-assigned, lower-assigned, lower-levels, learnt-false}
 use Rattle.craig_analyze.proofs.analysis.Analysis.learn_with.Goals as goal
 
 pub find_asserting-requires : goal.find_asserting-requires
@@ -13,7 +14,7 @@ find_asserting-requires c =
     let ok = c.begin.ensures.consistent in
     let begun = c.in_ok-begin.ensures.begun in
     let two = c.conflicts_above_the_root.ensures.two h c.args.conflict.0 c.requires.conflict.0 ok c.requires.level c.requires.conflict.1 c.requires.conflict.2 in
-    let same : c.requires.conflict.0 ≡ begun.conflict = same_found _ _ (sym c.requires.conflict.1 ∙ begun.held) in
+    let same : c.requires.conflict.0 ≡ begun.conflict = same_Some _ _ (sym c.requires.conflict.1 ∙ begun.held) in
     record {
       consistent = ok;
       level = c.requires.level;

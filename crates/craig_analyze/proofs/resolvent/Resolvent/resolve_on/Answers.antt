@@ -18,12 +18,12 @@ reason-requires c =
     let read = literal-read t c.trail.result.now c.args.place c.index-trail-place.result c.trail.ensures.value c.requires.within c.index-trail-place.is in
     subst (IsAssigned t) (sym (c.var.ensures.value ∙ ap (λ (l : Literal). l.var) read)) (place-assigned t c.args.place c.trail.ensures.consistent.distinct c.requires.within)
 
-pub returns-in_default : goal.returns-in_default
-returns-in_default c =
+pub unreachable-requires : goal.unreachable-requires
+unreachable-requires c =
     let h = c.args.held.now in
     let read = literal-read h.trail c.trail.result.now c.args.place c.index-trail-place.result c.trail.ensures.value c.requires.within c.index-trail-place.is in
     let told = reason-told h c.args.place c.var.result.0 c.reason.result c.trail.ensures.consistent c.requires.within (c.var.ensures.value ∙ ap (λ (l : Literal). l.var) read) c.reason.ensures in
-    absurd (no-reason (at_place h.trail c.args.place).reason (sym told ∙ c.in_default.is) c.requires.forced)
+    no-reason (at_place h.trail c.args.place).reason (sym told ∙ c.in_default.is) c.requires.forced
 
 pub meet-requires : goal.meet-requires
 meet-requires c =

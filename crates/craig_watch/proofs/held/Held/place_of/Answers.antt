@@ -1,6 +1,6 @@
 use Rattle.std.proofs.Common.{◌<◌, length, arith, sym, ◌∙◌}
 use Rattle.std.proofs.lemmas.Option.{slice_get-get_or}
-use Rattle.craig_watch.proofs.TrailLemmas.{any_entry}
+use Rattle.craig_watch.specs.Trail.{any_entry}
 use Rattle.craig_watch.proofs.HeldFieldsLemmas.{assigned-known, place-within, place-assigned, entry_of-place}
 use Rattle.craig_watch.proofs.held.Held.place_of.Goals as goal
 

@@ -1,5 +1,5 @@
 use Rattle.std.proofs.Common.{◌<◌, length, arith}
-use Rattle.craig_watch.proofs.TrailLemmas.{any_entry}
+use Rattle.craig_watch.specs.Trail.{any_entry}
 use Rattle.craig_watch.proofs.StoredLemmas.{Stored-popped}
 use Rattle.craig_watch.proofs.held.Held.take_last.Goals as goal
 

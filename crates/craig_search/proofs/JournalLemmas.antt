@@ -11,7 +11,8 @@ use Rattle.craig_base.specs.Arena.{ArenaView, FlaggedClause, IsArena, ChangesOnl
 use Rattle.craig_base.specs.LemmaRule.{ContainsClause}
 use Rattle.craig_watch.specs.Held.{HeldView, IsConsistent, held_clause}
 use Rattle.craig_search.specs.Searching.{IsJournal, IsNew}
-use Rattle.craig_search.proofs.ArenaLemmas.{held-below, held-before, held-after, literals_at-found, added-here, added-kept, added-held, flagged}
+use Rattle.craig_base.proofs.LookUpLemmas.{added-held, added-here, added-kept, flagged, held-below, literals_at-found}
+use Rattle.craig_base.proofs.ReorderLemmas.{GivesSame-before, GivesSame-reordered}
 
 pub IsJournal-start : (a : ArenaView) → IsArena a → IsJournal a.given a
 IsJournal-start a ok = record {
@@ -24,11 +25,12 @@ IsJournal-reordered first a b journal only = record {
   stand = λ id high low.
       let same : b.given ≡ a.given = only.given in
       let p = journal.stand id high (omega arith) in
-      held-after a b only id p.0 p.1;
+      let q = GivesSame-reordered a b only id p.0 p.1 in
+      (q.0, q.1);
   new = λ id other c d high before is also contains.
-      let p = held-before a b only id c is in
-      let q = held-before a b only other d also in
-      journal.new id other p.0 q.0 high before p.1 q.1 (λ l h. (p.2 l).1 (contains l ((q.2 l).0 h)));
+      let p = GivesSame-before a b only id c is in
+      let q = GivesSame-before a b only other d also in
+      journal.new id other p.0 q.0 high before p.1 q.1 (λ l h. (p.2 l).0 (contains l ((q.2 l).1 h)));
 }
 
 pub IsJournal-learnt : (first : ℕ) (a b : ArenaView) (id : ℕ) (f : FlaggedClause) → IsJournal first a → b.given ≡ a.given + 1 → id ≡ a.given → clause_at a id ≡ None → ChangesOnly a b id (Some f) → IsArena b → IsNew a f.literals → IsJournal first b

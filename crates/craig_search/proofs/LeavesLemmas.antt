@@ -6,42 +6,26 @@ use Rattle.craig_spec.specs.Truth.{Assignment, IsModel, clause_value}
 use Rattle.craig_spec.specs.Occurs.{occurs_in_clause}
 use Rattle.craig_base.specs.declared.flags.Flags.{Flags}
 use Rattle.craig_base.specs.Arena.{ArenaView, FlaggedClause, IsReordered, ChangesOnly, OnlyReorders, clause_at, clauses_of, literals_of, with_id}
-use Rattle.craig_proof.specs.Covers.{GivesSome}
 use Rattle.craig_watch.specs.Held.{HeldView, IsConsistent, held_clause}
 use Rattle.craig_search.specs.Leaves.{Leaves}
 use Rattle.craig_spec.proofs.ClauseLemmas.{SameLiterals-refl, SameLiterals-sym, SameLiterals-trans, clause_value-same, occurs_in_clause-same}
 use Rattle.craig_spec.proofs.MemberLemmas.{list_any-member}
-use Rattle.craig_search.proofs.ArenaLemmas.{live-below, held-before, added-kept, added-before, added-held}
+use Rattle.craig_base.proofs.FoundLemmas.{Contains-clauses_of, IsModel-found}
+use Rattle.craig_base.proofs.LookUpLemmas.{added-before, added-held, added-kept, live-below}
+use Rattle.craig_base.proofs.ReorderLemmas.{GivesSame-before, IsReordered-refl}
+use Rattle.craig_proof.proofs.ChainGrowthLemmas.{ChainOk-variable}
+use Rattle.craig_proof.proofs.FollowsLemmas.{ChainOk-true}
 
--- a model of the clauses makes each one true that is found under an id
-abbrev pub ModelsLookUp : Type 0
-ModelsLookUp = (a : ArenaView) (s : Assignment) → IsModel s (clauses_of a) → (id : ℕ) (c : Clause) → literals_of a id ≡ Some c → clause_value s c ≡ true
-
--- the list of the clauses has each one that is found under an id
-abbrev pub AreListed : Type 0
-AreListed = (a : ArenaView) (id : ℕ) (c : Clause) → literals_of a id ≡ Some c → Contains (clauses_of a) c
-
--- the clause of a chain is true wherever those of its antecedents are
-abbrev pub ChainsFollow : Type 0
-ChainsFollow = (f : ℕ → Option Clause) (literals : Clause) (first : ℕ) (rest : List ChainStep) → ChainOk f literals first rest → (a : Assignment) → ((id : ℕ) (c : Clause) → Contains (antecedents (Derived first rest)) id → f id ≡ Some c → clause_value a c ≡ true) → clause_value a literals ≡ true
-
--- each variable of a chain's clause is one of an antecedent's
-abbrev pub ChainsKeepVariables : Type 0
-ChainsKeepVariables = (f : ℕ → Option Clause) (literals : Clause) (first : ℕ) (rest : List ChainStep) → ChainOk f literals first rest → (x : ℕ) → occurs_in_clause x literals ≡ true → GivesSome f (antecedents (Derived first rest)) (λ c. occurs_in_clause x c ≡ true)
-
-IsReordered-refl : (c : FlaggedClause) → IsReordered c c
-IsReordered-refl c = record { literals = SameLiterals-refl c.literals; flags = refl }
-
-pub Leaves-start : ModelsLookUp → AreListed → (h : HeldView) → IsConsistent h → Leaves h h
-Leaves-start looks_up listed h ok = record {
+pub Leaves-start : (h : HeldView) → IsConsistent h → Leaves h h
+Leaves-start h ok = record {
   vars = refl;
   dead = refl;
   given = omega arith;
   stay = λ id c is no. (c, is, IsReordered-refl c);
   older = λ id d low is. (d, is, record { literals = SameLiterals-refl d.literals; learnt = refl });
   learnt = λ id d high is. absurd (let low : id < h.arena.given = live-below h.arena id d ok.arena is in omega arith);
-  implied = λ id c is s model. looks_up h.arena s model id c is;
-  variables = λ id x c is occurs. list_any-member (occurs_in_clause x) (clauses_of h.arena) c (listed h.arena id c is) occurs;
+  implied = λ id c is s model. IsModel-found h.arena s model id c is;
+  variables = λ id x c is occurs. list_any-member (occurs_in_clause x) (clauses_of h.arena) c (Contains-clauses_of h.arena id c is) occurs;
 }
 
 -- after clauses changed the order of their literals
@@ -62,16 +46,16 @@ Leaves-reordered start old new left only vars dead = record {
       let q = only.stood id d is in
       ap (λ (f : Flags). f.learnt) q.2.flags ∙ left.learnt id q.0 high q.1;
   implied = λ id c is s model.
-      let q = held-before old.arena new.arena only id c is in
-      clause_value-same s q.0 c q.2 (left.implied id q.0 q.1 s model);
+      let q = GivesSame-before old.arena new.arena only id c is in
+      clause_value-same s q.0 c (SameLiterals-sym c q.0 q.2) (left.implied id q.0 q.1 s model);
   variables = λ id x c is occurs.
-      let q = held-before old.arena new.arena only id c is in
-      left.variables id x q.0 q.1 (occurs_in_clause-same x c q.0 (SameLiterals-sym q.0 c q.2) occurs);
+      let q = GivesSame-before old.arena new.arena only id c is in
+      left.variables id x q.0 q.1 (occurs_in_clause-same x c q.0 q.2 occurs);
 }
 
 -- after a clause was learnt from held ones
-pub Leaves-learnt : ChainsFollow → ChainsKeepVariables → (start old new : HeldView) (id first : ℕ) (rest : List ChainStep) (f : FlaggedClause) → Leaves start old → new.vars ≡ old.vars → new.dead ≡ old.dead → new.arena.given ≡ old.arena.given + 1 → id ≡ old.arena.given → clause_at old.arena id ≡ None → ChangesOnly old.arena new.arena id (Some f) → f.flags.learnt ≡ true → ChainOk (held_clause old.arena) f.literals first rest → Leaves start new
-Leaves-learnt follow variables start old new id first rest f left vars dead given next fresh only learnt chain = record {
+pub Leaves-learnt : (start old new : HeldView) (id first : ℕ) (rest : List ChainStep) (f : FlaggedClause) → Leaves start old → new.vars ≡ old.vars → new.dead ≡ old.dead → new.arena.given ≡ old.arena.given + 1 → id ≡ old.arena.given → clause_at old.arena id ≡ None → ChangesOnly old.arena new.arena id (Some f) → f.flags.learnt ≡ true → ChainOk (held_clause old.arena) f.literals first rest → Leaves start new
+Leaves-learnt start old new id first rest f left vars dead given next fresh only learnt chain = record {
   vars = vars ∙ left.vars;
   dead = dead ∙ left.dead;
   given = omega (arith, left.given);
@@ -85,12 +69,12 @@ Leaves-learnt follow variables start old new id first rest f left vars dead give
     | inr was ↦ left.learnt k d high was
   ];
   implied = λ k c is s model. elim (added-held old.arena new.arena id f fresh only k c is) [
-    | inl last ↦ subst (λ (d : Clause). clause_value s d ≡ true) last.1 (follow (held_clause old.arena) f.literals first rest chain s (λ j d named found. left.implied j d found s model))
+    | inl last ↦ subst (λ (d : Clause). clause_value s d ≡ true) last.1 (ChainOk-true (held_clause old.arena) f.literals first rest chain s (λ j d named found. left.implied j d found s model))
     | inr was ↦ left.implied k c was s model
   ];
   variables = λ k x c is occurs. elim (added-held old.arena new.arena id f fresh only k c is) [
     | inl last ↦
-        let g = variables (held_clause old.arena) f.literals first rest chain x (subst (λ (d : Clause). occurs_in_clause x d ≡ true) (sym last.1) occurs) in
+        let g = ChainOk-variable (held_clause old.arena) f.literals first rest chain x (subst (λ (d : Clause). occurs_in_clause x d ≡ true) (sym last.1) occurs) in
         left.variables g.id x g.clause g.given g.holds
     | inr was ↦ left.variables k x c was occurs
   ];

@@ -1,4 +1,3 @@
-pub mod ArenaLemmas
 pub mod LeavesLemmas
 pub mod JournalLemmas
 pub mod TellsLemmas

@@ -4,13 +4,13 @@ use Rattle.craig_spec.specs.Chain.{Told}
 use Rattle.craig_watch.specs.Trail.{Trail}
 use Rattle.craig_watch.specs.Held.{HeldView, IsConsistent, IsLengthened}
 use Rattle.craig_search.specs.Searching.{IsSearching}
-use Rattle.craig_search.proofs.LeavesLemmas.{AreListed, Leaves-reordered, Leaves-start, ModelsLookUp}
+use Rattle.craig_search.proofs.LeavesLemmas.{Leaves-reordered, Leaves-start}
 use Rattle.craig_search.proofs.JournalLemmas.{IsJournal-reordered, IsJournal-start}
 use Rattle.craig_search.proofs.TellsLemmas.{TellsLearnt-start}
 
-pub IsSearching-start : ModelsLookUp → AreListed → (h : HeldView) (told : Option Told) → IsConsistent h → IsSearching h h told told
-IsSearching-start looks_up listed h told ok = record {
-  leaves = Leaves-start looks_up listed h ok;
+pub IsSearching-start : (h : HeldView) (told : Option Told) → IsConsistent h → IsSearching h h told told
+IsSearching-start h told ok = record {
+  leaves = Leaves-start h ok;
   journal = IsJournal-start h.arena ok.arena;
   tells = TellsLearnt-start h told;
 }

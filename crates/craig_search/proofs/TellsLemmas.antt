@@ -13,7 +13,9 @@ use Rattle.craig_watch.specs.Held.{HeldView, held_clause}
 use Rattle.craig_search.specs.Leaves.{Leaves}
 use Rattle.craig_search.specs.Tells.{IsOfSearch, Tells}
 use Rattle.craig_search.specs.Searching.{TellsLearnt}
-use Rattle.craig_search.proofs.ArenaLemmas.{flagged}
+use Rattle.craig_base.proofs.LookUpLemmas.{flagged}
+use Rattle.craig_proof.proofs.AppendsLemmas.{before_step}
+use Rattle.craig_proof.proofs.ChainGrowthLemmas.{ChainOk-given}
 
 pub Tells-start : (lent : ℕ → Option Clause) (first : ℕ) (IsUnit : ℕ → Type 0) (t : Told) → Tells lent first IsUnit t t
 Tells-start lent first IsUnit t = record {
@@ -33,11 +35,6 @@ Tells-pushed lent first IsUnit t u s tells of = record {
   unforgotten = λ id kept none. IsUnforgotten-pushed u.steps s id (tells.unforgotten id kept none);
 }
 
--- what was told before the step
-pub before_step : (before after : Option Told) (s : ToldStep) (u : Told) → Appends before after s → after ≡ Some u → (t : Told) × (before ≡ Some t) × (u ≡ with_step t s)
-before_step None after s u appends is = absurd (let no : None ≡ Some u = sym appends ∙ is in cc)
-before_step (Some t) after s u appends is = (t, refl, let same : Some (with_step t s) ≡ Some u = sym appends ∙ is in cc)
-
 pub TellsLearnt-start : (start : HeldView) (told : Option Told) → TellsLearnt start told told
 TellsLearnt-start start told t u is also =
     subst (Tells (held_clause start.arena) start.arena.given (λ id. ⊥) t) (let same : t ≡ u = cc in same) (Tells-start (held_clause start.arena) start.arena.given (λ id. ⊥) t)
@@ -45,17 +42,13 @@ TellsLearnt-start start told t u is also =
 some-literals : (o : Option FlaggedClause) (c : FlaggedClause) → o ≡ Some c → IsSome (option_map (λ f. f.literals) o)
 some-literals o c is = rw is refl
 
--- the look-up gives each antecedent of a chain
-abbrev pub ChainsAreGiven : Type 0
-ChainsAreGiven = (f : ℕ → Option Clause) (literals : Clause) (first : ℕ) (rest : List ChainStep) → ChainOk f literals first rest → (id : ℕ) → Contains (antecedents (Derived first rest)) id → (c : Clause) × (f id ≡ Some c)
-
 -- a clause that is derived from held ones
-pub derived-of_search : ChainsAreGiven → (IsUnit : ℕ → Type 0) (start old : HeldView) (id : ℕ) (literals : Clause) (first : ℕ) (rest : List Step) → Leaves start old → id ≡ old.arena.given → ChainOk (held_clause old.arena) literals first (chain_of rest) → IsOfSearch (held_clause start.arena) start.arena.given IsUnit (derived_step id literals first rest)
-derived-of_search given IsUnit start old id literals first rest left next chain = record {
+pub derived-of_search : (IsUnit : ℕ → Type 0) (start old : HeldView) (id : ℕ) (literals : Clause) (first : ℕ) (rest : List Step) → Leaves start old → id ≡ old.arena.given → ChainOk (held_clause old.arena) literals first (chain_of rest) → IsOfSearch (held_clause start.arena) start.arena.given IsUnit (derived_step id literals first rest)
+derived-of_search IsUnit start old id literals first rest left next chain = record {
   later = omega (arith, left.given);
   originals = λ no. absurd no;
   antecedents = λ a named.
-      let p = given (held_clause old.arena) literals first (chain_of rest) chain a named in
+      let p = ChainOk-given (held_clause old.arena) literals first (chain_of rest) chain a named in
       elim (cases_lt a start.arena.given) [
         | inl low ↦
             let f = flagged (clause_at old.arena a) p.0 p.1 in

@@ -13,15 +13,17 @@ use Rattle.craig_search.specs.Leaves.{IsReady, Leaves}
 use Rattle.craig_search.specs.Searching.{IsSearching, TellsEmptyClause}
 use Rattle.craig_search.specs.Tells.{IsRoot, IsUnitId, Tells}
 use Rattle.craig_search.specs.Verdict.{Assumptions, IsRefuted}
-use Rattle.craig_search.proofs.LeavesLemmas.{ChainsFollow, Leaves-numbered}
-use Rattle.craig_search.proofs.TellsLemmas.{ChainsAreGiven, Tells-pushed, before_step, derived-of_search}
+use Rattle.craig_proof.proofs.AppendsLemmas.{before_step}
+use Rattle.craig_proof.proofs.FollowsLemmas.{ChainOk-true}
+use Rattle.craig_search.proofs.LeavesLemmas.{Leaves-numbered}
+use Rattle.craig_search.proofs.TellsLemmas.{Tells-pushed, derived-of_search}
 
 -- an empty clause that follows has no model
-pub refuted-contradictory : ChainsFollow → (start last end : HeldView) (root : ℕ) (origin before after : Option Told) (assumptions : Assumptions) → IsSearching start last origin before → TellsEmptyClause last end root before after → IsRefuted start assumptions []
-refuted-contradictory follow start last end root origin before after assumptions search refutation = record {
+pub refuted-contradictory : (start last end : HeldView) (root : ℕ) (origin before after : Option Told) (assumptions : Assumptions) → IsSearching start last origin before → TellsEmptyClause last end root before after → IsRefuted start assumptions []
+refuted-contradictory start last end root origin before after assumptions search refutation = record {
   first_places = record { rising = λ k low. absurd (omega arith); first = λ k d within. absurd (omega arith) };
   contradictory = λ s model _.
-      let value : clause_value s [] ≡ true = follow (held_clause last.arena) [] refutation.first (chain_of refutation.rest) refutation.chain s (λ id c named found. search.leaves.implied id c found s model) in
+      let value : clause_value s [] ≡ true = ChainOk-true (held_clause last.arena) [] refutation.first (chain_of refutation.rest) refutation.chain s (λ id c named found. search.leaves.implied id c found s model) in
       let no : false ≡ true = value in
       cc;
 }
@@ -52,12 +54,12 @@ nothing-there k a is = let no : None ≡ Some a = is in cc
 no-units : (root id : ℕ) → IsUnitId root [] id → ⊥
 no-units root id unit = omega (arith, unit.0, unit.1)
 
-pub refuted-told : ChainsAreGiven → (start last end : HeldView) (root : ℕ) (origin before after : Option Told) (assumptions : Assumptions) (t u : Told) → IsSearching start last origin before → TellsEmptyClause last end root before after → origin ≡ Some t → after ≡ Some u → Tells (held_clause start.arena) start.arena.given (IsUnitId root []) t u × IsRoot end assumptions root [] t u
-refuted-told given start last end root origin before after assumptions t u search refutation is also =
+pub refuted-told : (start last end : HeldView) (root : ℕ) (origin before after : Option Told) (assumptions : Assumptions) (t u : Told) → IsSearching start last origin before → TellsEmptyClause last end root before after → origin ≡ Some t → after ≡ Some u → Tells (held_clause start.arena) start.arena.given (IsUnitId root []) t u × IsRoot end assumptions root [] t u
+refuted-told start last end root origin before after assumptions t u search refutation is also =
     let step : ToldStep = derived_step root [] refutation.first refutation.rest in
     let w = before_step before after step u refutation.told also in
     let so_far = Tells-weaker (held_clause start.arena) start.arena.given (λ id. ⊥) (IsUnitId root []) t w.0 (λ id no. absurd no) (search.tells t w.0 is w.1) in
-    let of = derived-of_search given (IsUnitId root []) start last root [] refutation.first refutation.rest search.leaves refutation.next refutation.chain in
+    let of = derived-of_search (IsUnitId root []) start last root [] refutation.first refutation.rest search.leaves refutation.next refutation.chain in
     let tells = subst (Tells (held_clause start.arena) start.arena.given (IsUnitId root []) t) (sym w.2) (Tells-pushed (held_clause start.arena) start.arena.given (IsUnitId root []) t w.0 step so_far of) in (
       tells,
       record {

@@ -72,10 +72,7 @@ fn hold_learnt<T: Tracer>(
     ensures tells { is_some (T.told tracer.new) ≡ is_some (T.told tracer.old) }
     ensures kept { T.kept tracer.new ≡ T.kept tracer.old }
 {
-    craig_proof::laws::chain_follows();
-    craig_proof::laws::chain_variables();
     craig_proof::laws::covered_chain_is_told();
-    craig_proof::laws::covering_is_kept();
     let flags = Flags {
         learnt: true,
         kept: false,

@@ -28,7 +28,6 @@ pub(crate) fn refuted<T: Tracer>(
     ensures kept { T.kept tracer.new ≡ T.kept tracer.old }
 {
     craig_proof::laws::covered_chain_is_told();
-    craig_proof::laws::covering_is_kept();
     let empty = analysis.refute_with(held, conflict)?;
     let lits = empty.lits.as_slice();
     let rest = empty.rest.as_slice();

@@ -5,7 +5,8 @@ use Rattle.std.specs.Result.{IfOk, OnOk}
 use Rattle.std.proofs.lemmas.List.Elements.{All-contains, Contains-append_cases}
 use Rattle.craig_spec.specs.Literal.{Clause, Literal, negation}
 use Rattle.craig_spec.specs.Truth.{Assignment, IsModel, clause_value, literal_value, variable_value}
-use Rattle.craig_base.specs.Arena.{ArenaView, FlaggedClause, IsArena, clauses_of, literals_of}
+use Rattle.craig_base.specs.Arena.{ArenaView, FlaggedClause, IsArena, clauses_of}
+use Rattle.craig_base.proofs.FoundLemmas.{Contains-clauses_of}
 use Rattle.craig_base.specs.Clauses.{IsTautology}
 use Rattle.craig_base.specs.LemmaRule.{MeetsLemmaRule}
 use Rattle.craig_base.specs.Values.{assignment_of_values}
@@ -25,16 +26,12 @@ use Rattle.craig_solver.specs.State.{AreHeldFor}
 use Rattle.craig_spec.proofs.ClauseLemmas.{SameLiterals-sym, SameLiterals-trans, clause_value-member, clause_value-same}
 use Rattle.craig_spec.proofs.MemberLemmas.{Contains-from_image, Contains-front}
 use Rattle.craig_solver.proofs.ListLemmas.{list_all-members}
-use Rattle.craig_solver.proofs.SearchedLemmas.{AreLookedUp, ModelsOfArena, held-model, held-occurs}
+use Rattle.craig_solver.proofs.SearchedLemmas.{held-model, held-occurs}
 
 -- what is said of an answer, and what is said where there is one
 pub IfOk-both : {T E Q : Type 0} {P R : T → Type 0} (r : Result T E) → ((x : T) → P x → Q → R x) → IfOk r P → OnOk r Q → IfOk r R
 IfOk-both (Ok x) both p q = both x p q
 IfOk-both (Err e) both p q = tt
-
--- the list of an arena's clauses has each one that is found
-abbrev pub AreListed : Type 0
-AreListed = (a : ArenaView) (id : ℕ) (c : Clause) → literals_of a id ≡ Some c → Contains (clauses_of a) c
 
 by-refuting : (b : Bool) → (b ≡ false → b ≡ true) → b ≡ true
 by-refuting true h = refl
@@ -92,32 +89,32 @@ module _ (accepted : List (Part × Clause)) (h n : HeldView) (vars : ℕ) (are :
       ])
 
 -- lemmas over the held clauses are lemmas over the accepted ones
-rule-searched : ModelsOfArena → AreLookedUp → AreListed → (accepted : List (Part × Clause)) (a : ArenaView) (vars : ℕ) (lemmas : List Clause) → IsArena a → AreHeldFor accepted a vars → MeetsLemmaRule (clauses_of a) lemmas → MeetsLemmaRule (accepted_clauses accepted) lemmas
-rule-searched models looks_up listed accepted a vars lemmas ok are rule = record {
-  implied = λ k d within s model. rule.implied k d within s (held-model models accepted a vars ok are s model);
-  known = λ k d within x occurs. held-occurs looks_up accepted a vars ok are x (rule.known k d within x occurs);
+rule-searched : (accepted : List (Part × Clause)) (a : ArenaView) (vars : ℕ) (lemmas : List Clause) → IsArena a → AreHeldFor accepted a vars → MeetsLemmaRule (clauses_of a) lemmas → MeetsLemmaRule (accepted_clauses accepted) lemmas
+rule-searched accepted a vars lemmas ok are rule = record {
+  implied = λ k d within s model. rule.implied k d within s (held-model accepted a vars ok are s model);
+  known = λ k d within x occurs. held-occurs accepted a vars ok are x (rule.known k d within x occurs);
   not_tautology = rule.not_tautology;
   new = λ k d within c here contains.
       let p = Contains-from_image (λ (b : Part × Clause). b.1) accepted c here in
       let inside = λ (l : Literal) (has : Contains p.0.1 l). contains l (subst (λ (e : Clause). Contains e l) (sym p.2) has) in
       let o = are.held p.0 p.1 (λ tautology. rule.not_tautology k d within (tautology.0, inside tautology.0 tautology.1, inside (negation tautology.0) tautology.2)) in
-      rule.new k d within o.clause.literals (listed a o.id o.clause.literals (ap (option_map (λ (f : FlaggedClause). f.literals)) o.live)) (λ l has. inside l ((o.literals l).1 has));
+      rule.new k d within o.clause.literals (Contains-clauses_of a o.id o.clause.literals (ap (option_map (λ (f : FlaggedClause). f.literals)) o.live)) (λ l has. inside l ((o.literals l).1 has));
   few = rule.few;
 }
 
-answer-cases : ModelsOfArena → AreLookedUp → AreListed → (accepted : List (Part × Clause)) (h n : HeldView) (assumptions : Assumptions) (limit : Option ℕ) (v : Verdict) (a : Answer) → IsArena h.arena → AreHeldFor accepted h.arena h.vars → Leaves h n → IsVerdict h n assumptions limit v → IsAnswerFor n v a → IsAnswer (accepted_clauses accepted) h.vars assumptions limit a
-answer-cases models looks_up listed accepted h n assumptions limit verdict.Model (answer.Model values) ok are left is for =
+answer-cases : (accepted : List (Part × Clause)) (h n : HeldView) (assumptions : Assumptions) (limit : Option ℕ) (v : Verdict) (a : Answer) → IsArena h.arena → AreHeldFor accepted h.arena h.vars → Leaves h n → IsVerdict h n assumptions limit v → IsAnswerFor n v a → IsAnswer (accepted_clauses accepted) h.vars assumptions limit a
+answer-cases accepted h n assumptions limit verdict.Model (answer.Model values) ok are left is for =
     (for.many ∙ left.vars, model-searched accepted h n h.vars are left values assumptions for is)
-answer-cases models looks_up listed accepted h n assumptions limit verdict.Model (answer.Failed root places) ok are left is for =
+answer-cases accepted h n assumptions limit verdict.Model (answer.Failed root places) ok are left is for =
     absurd for
-answer-cases models looks_up listed accepted h n assumptions limit verdict.Model (answer.Limit lemmas) ok are left is for =
+answer-cases accepted h n assumptions limit verdict.Model (answer.Limit lemmas) ok are left is for =
     absurd for
-answer-cases models looks_up listed accepted h n assumptions limit (verdict.Failed root places) a ok are left is for =
-    subst (IsAnswer (accepted_clauses accepted) h.vars assumptions limit) (sym for) (is.first_places, λ s model. is.contradictory s (held-model models accepted h.arena h.vars ok are s model))
-answer-cases models looks_up listed accepted h n assumptions limit (verdict.Limit lemmas) a ok are left is for =
-    subst (IsAnswer (accepted_clauses accepted) h.vars assumptions limit) (sym for) (is.many, rule-searched models looks_up listed accepted h.arena h.vars lemmas ok are is.rule)
+answer-cases accepted h n assumptions limit (verdict.Failed root places) a ok are left is for =
+    subst (IsAnswer (accepted_clauses accepted) h.vars assumptions limit) (sym for) (is.first_places, λ s model. is.contradictory s (held-model accepted h.arena h.vars ok are s model))
+answer-cases accepted h n assumptions limit (verdict.Limit lemmas) a ok are left is for =
+    subst (IsAnswer (accepted_clauses accepted) h.vars assumptions limit) (sym for) (is.many, rule-searched accepted h.arena h.vars lemmas ok are is.rule)
 
 -- the answer is right of the accepted clauses, whatever they and the number of variables are called
-pub IsAnswer-searched : ModelsOfArena → AreLookedUp → AreListed → (accepted same : List (Part × Clause)) (h n : HeldView) (vars : ℕ) (assumptions : Assumptions) (limit : Option ℕ) (v : Verdict) (a : Answer) → accepted ≡ same → h.vars ≡ vars → IsArena h.arena → AreHeldFor accepted h.arena h.vars → Leaves h n → IsVerdict h n assumptions limit v → IsAnswerFor n v a → IsAnswer (accepted_clauses same) vars assumptions limit a
-IsAnswer-searched models looks_up listed accepted same h n vars assumptions limit v a is_same vars_is ok are left is for =
-    subst (λ (xs : List (Part × Clause)). IsAnswer (accepted_clauses xs) vars assumptions limit a) is_same (subst (λ (k : ℕ). IsAnswer (accepted_clauses accepted) k assumptions limit a) vars_is (answer-cases models looks_up listed accepted h n assumptions limit v a ok are left is for))
+pub IsAnswer-searched : (accepted same : List (Part × Clause)) (h n : HeldView) (vars : ℕ) (assumptions : Assumptions) (limit : Option ℕ) (v : Verdict) (a : Answer) → accepted ≡ same → h.vars ≡ vars → IsArena h.arena → AreHeldFor accepted h.arena h.vars → Leaves h n → IsVerdict h n assumptions limit v → IsAnswerFor n v a → IsAnswer (accepted_clauses same) vars assumptions limit a
+IsAnswer-searched accepted same h n vars assumptions limit v a is_same vars_is ok are left is for =
+    subst (λ (xs : List (Part × Clause)). IsAnswer (accepted_clauses xs) vars assumptions limit a) is_same (subst (λ (k : ℕ). IsAnswer (accepted_clauses accepted) k assumptions limit a) vars_is (answer-cases accepted h n assumptions limit v a ok are left is for))

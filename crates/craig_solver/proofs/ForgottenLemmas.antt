@@ -5,28 +5,25 @@ use Rattle.craig_spec.specs.Literal.{Clause}
 use Rattle.craig_spec.specs.Chain.{Told, IsUnforgotten, without_id}
 use Rattle.craig_base.specs.declared.clause_id.ClauseId.{ClauseId}
 use Rattle.craig_proof.specs.Covers.{IsCovering}
+use Rattle.craig_proof.proofs.CoversLemmas.{IsCovering-forgotten}
 use Rattle.craig_watch.specs.Held.{held_clause}
 use Rattle.craig_solver.specs.State.{IsState, StateView}
 use Rattle.craig_solver.proofs.ToldLemmas.{AreAccepted-forgotten, AreAllTold-forgotten}
 
--- covering is kept when an id is forgotten that has no clause
-abbrev pub CoversForgotten : Type 0
-CoversForgotten = (before after : Option Told) (f : ℕ → Option Clause) (given id : ℕ) → IsCovering before f given → after ≡ option_map (without_id id) before → f id ≡ None → IsCovering after f given
-
-covers-forgotten : CoversForgotten → (before after : Option Told) (f : ℕ → Option Clause) (given id : ℕ) → IsCovering before f given → after ≡ option_map (without_id id) before → ForSome before (λ t. f id ≡ None) → IsCovering after f given
-covers-forgotten law None after f given id covers is none = λ u at. absurd (let no : None ≡ Some u = sym is ∙ at in cc)
-covers-forgotten law (Some t) after f given id covers is none = law (Some t) after f given id covers is (none t refl)
+covers-forgotten : (before after : Option Told) (f : ℕ → Option Clause) (given id : ℕ) → IsCovering before f given → after ≡ option_map (without_id id) before → ForSome before (λ t. f id ≡ None) → IsCovering after f given
+covers-forgotten None after f given id covers is none = λ u at. absurd (let no : None ≡ Some u = sym is ∙ at in cc)
+covers-forgotten (Some t) after f given id covers is none = IsCovering-forgotten (Some t) after f given id covers is (none t refl)
 
 -- the root may be forgotten
 pub root-unforgotten : (s : StateView) (id : ClauseId) → IsState s → s.root ≡ Some id → ForSome s.told (λ t. IsUnforgotten t.steps id.0)
 root-unforgotten s id state is t at = (state.root_of id is t at).0
 
-IsState-forgotten : CoversForgotten → (s : StateView) (after : Option Told) (id : ClauseId) → IsState s → s.root ≡ Some id → after ≡ option_map (without_id id.0) s.told → IsState (record s { told = after; root = None })
-IsState-forgotten law s after id state root_is is = record {
+IsState-forgotten : (s : StateView) (after : Option Told) (id : ClauseId) → IsState s → s.root ≡ Some id → after ≡ option_map (without_id id.0) s.told → IsState (record s { told = after; root = None })
+IsState-forgotten s after id state root_is is = record {
   begins = record {
     level = state.begins.level;
     ready = state.begins.ready;
-    covers = covers-forgotten law s.told after (held_clause s.held.arena) s.held.arena.given id.0 state.begins.covers is (λ t at. (state.root_of id root_is t at).2);
+    covers = covers-forgotten s.told after (held_clause s.held.arena) s.held.arena.given id.0 state.begins.covers is (λ t at. (state.root_of id root_is t at).2);
   };
   consistent = state.consistent;
   held_alive = state.held_alive;
@@ -51,10 +48,10 @@ IsState-rootless s after state same = subst (λ (t : Option Told). IsState (reco
   root_of = λ r none. absurd (let no : None ≡ Some r = none in cc);
 })
 
-root-cases : CoversForgotten → (s : StateView) (after : Option Told) (root : Option ClauseId) → s.root ≡ root → IsState s → (root ≡ None → after ≡ s.told) → ((id : ClauseId) → root ≡ Some id → after ≡ option_map (without_id id.0) s.told) → IsState (record s { told = after; root = None })
-root-cases law s after None is state none told = IsState-rootless s after state (none refl)
-root-cases law s after (Some id) is state none told = IsState-forgotten law s after id state is (told id refl)
+root-cases : (s : StateView) (after : Option Told) (root : Option ClauseId) → s.root ≡ root → IsState s → (root ≡ None → after ≡ s.told) → ((id : ClauseId) → root ≡ Some id → after ≡ option_map (without_id id.0) s.told) → IsState (record s { told = after; root = None })
+root-cases s after None is state none told = IsState-rootless s after state (none refl)
+root-cases s after (Some id) is state none told = IsState-forgotten s after id state is (told id refl)
 
 -- after the root, if there is one, was forgotten
-pub IsState-root_forgotten : CoversForgotten → (s : StateView) (after : Option Told) → IsState s → (s.root ≡ None → after ≡ s.told) → ((id : ClauseId) → s.root ≡ Some id → after ≡ option_map (without_id id.0) s.told) → IsState (record s { told = after; root = None })
-IsState-root_forgotten law s after state none told = root-cases law s after s.root refl state none told
+pub IsState-root_forgotten : (s : StateView) (after : Option Told) → IsState s → (s.root ≡ None → after ≡ s.told) → ((id : ClauseId) → s.root ≡ Some id → after ≡ option_map (without_id id.0) s.told) → IsState (record s { told = after; root = None })
+IsState-root_forgotten s after state none told = root-cases s after s.root refl state none told

@@ -18,9 +18,10 @@ use Rattle.craig_proof.specs.Covers.{IsCovering, IsOldOrNext}
 use Rattle.craig_proof.specs.Tracer.{Appends, original_step}
 use Rattle.craig_watch.specs.Held.{HeldView, IsConsistent, held_clause}
 use Rattle.craig_watch.specs.Trail.{IsAssigned}
-use Rattle.craig_search.proofs.ArenaLemmas.{added-before, added-held, added-here, added-kept, live-below}
-use Rattle.craig_search.proofs.CoversLemmas.{old_or_added}
-use Rattle.craig_search.proofs.TellsLemmas.{before_step}
+use Rattle.craig_base.proofs.LookUpLemmas.{added-before, added-held, added-here, added-kept, live-below}
+use Rattle.craig_proof.proofs.AppendsLemmas.{before_step}
+use Rattle.craig_proof.proofs.CoversLemmas.{IsCovering-original}
+use Rattle.craig_proof.proofs.OldOrNextLemmas.{old_or_added}
 use Rattle.craig_solver.specs.State.{AreHeldFor, AreHeldIds, IsHeld, IsRootOf, IsState, StateView, accepting, clauses_under}
 use Rattle.craig_solver.proofs.AcceptedLemmas.{IsModel-fewer, IsModel-last, Occurs-last, Occurs-more}
 use Rattle.craig_solver.proofs.ListLemmas.{map-alike}
@@ -99,10 +100,6 @@ module _ (a b : ArenaView) (id : ℕ) (f : FlaggedClause) (fresh : clause_at a i
     ];
   }
 
--- covering is kept when an original is told under the next id
-abbrev pub CoversOriginal : Type 0
-CoversOriginal = (before after : Option Told) (f g : ℕ → Option Clause) (given part : ℕ) (literals : Clause) → IsCovering before f given → Appends before after (original_step given part literals) → IsOldOrNext f g given literals → IsCovering after g (given + 1)
-
 -- the literals that are held under an older id stay
 literals-added : (a b : ArenaView) (id : ℕ) (f : FlaggedClause) → clause_at a id ≡ None → ChangesOnly a b id (Some f) → (k : ℕ) → k ≢ id → literals_at b k ≡ literals_at a k
 literals-added a b id f fresh only k other = ap (λ (o : Option FlaggedClause). option_map_or (λ g. g.literals) o []) (elsewhere a b id f fresh only k other)
@@ -126,20 +123,20 @@ module _ (s : StateView) (after : Option Told) (n : HeldView) (id : ClauseId) (p
         ap (option_map (λ (g : FlaggedClause). g.literals)) (elsewhere s.held.arena n.arena id.0 f fresh only r.0 (λ same. omega (arith, low, same, next))) ∙ old.2,
       )
 
-  covers-added : CoversOriginal → IsCovering after (held_clause n.arena) n.arena.given
-  covers-added law =
+  covers-added : IsCovering after (held_clause n.arena) n.arena.given
+  covers-added =
       let given : n.arena.given ≡ s.held.arena.given + 1 = ap (λ (m : HeldView). m.arena.given) is in
-      subst (IsCovering after (held_clause n.arena)) (sym given) (law s.told after (held_clause s.held.arena) (held_clause n.arena) s.held.arena.given part.0 f.literals state.begins.covers (subst (λ (k : ℕ). Appends s.told after (original_step k part.0 f.literals)) next appends) (subst (λ (k : ℕ). IsOldOrNext (held_clause s.held.arena) (held_clause n.arena) k f.literals) next (old_or_added s.held.arena n.arena id.0 f fresh only)))
+      subst (IsCovering after (held_clause n.arena)) (sym given) (IsCovering-original s.told after (held_clause s.held.arena) (held_clause n.arena) s.held.arena.given part.0 f.literals state.begins.covers (subst (λ (k : ℕ). Appends s.told after (original_step k part.0 f.literals)) next appends) (subst (λ (k : ℕ). IsOldOrNext (held_clause s.held.arena) (held_clause n.arena) k f.literals) next (old_or_added s.held.arena n.arena id.0 f fresh only)))
 
-  pub IsState-original : CoversOriginal → IsConsistent n → f.flags.learnt ≡ false → IsNormal f.literals → SameLiterals written f.literals → All (λ (l : Literal). l.var < s.held.vars) written → IsState (record { accepted = s.accepted ++ (part, written) ∷ []; held = n; order = s.order; told = after; held_ids = longer; root = s.root })
-  IsState-original law ok not_learnt normal same known = record {
+  pub IsState-original : IsConsistent n → f.flags.learnt ≡ false → IsNormal f.literals → SameLiterals written f.literals → All (λ (l : Literal). l.var < s.held.vars) written → IsState (record { accepted = s.accepted ++ (part, written) ∷ []; held = n; order = s.order; told = after; held_ids = longer; root = s.root })
+  IsState-original ok not_learnt normal same known = record {
     begins = record {
       level = ap (λ (m : HeldView). m.level) is ∙ state.begins.level;
       ready = record {
         known = state.begins.ready.known ∙ sym (ap (λ (m : HeldView). m.vars) is);
         given_back = λ v free. state.begins.ready.given_back v (subst (λ (m : HeldView). v < m.vars) is free.0, λ assigned. free.1 (subst (λ (m : HeldView). IsAssigned m.trail v) (sym is) assigned));
       };
-      covers = covers-added law;
+      covers = covers-added;
     };
     consistent = ok;
     held_alive = ap (λ (m : HeldView). m.dead) is ∙ state.held_alive;

@@ -14,7 +14,8 @@ use Rattle.craig_solver.specs.declared.answer.Answer.TheVariants as answer
 use Rattle.craig_solver.specs.Answer.{root_of_answer}
 use Rattle.craig_solver.specs.Settling.{IsAnswerFor, root_of_verdict}
 use Rattle.craig_solver.specs.State.{IsState, StateView, root_number}
-use Rattle.craig_solver.proofs.SearchedLemmas.{told-still}
+use Rattle.craig_proof.proofs.AppendsLemmas.{before_forgotten, told_before}
+use Rattle.craig_proof.proofs.PartLemmas.{IsUnforgotten-step, unforgotten_step}
 use Rattle.craig_solver.proofs.ToldLemmas.{unforgotten-below}
 
 -- the root that a solver keeps is that of its answer
@@ -41,21 +42,9 @@ gone : (id : ℕ) (steps : List ToldStep) → list_any (λ (q : ToldStep). eqb q
 gone id [] = refl
 gone id (s ∷ steps) = gone-cases id s (map (forgotten_at id) steps) (eqb s.id id) refl (gone id steps)
 
--- what was told before the id was forgotten
-told-before : (before after : Option Told) (id : ℕ) (u : Told) → after ≡ option_map (without_id id) before → after ≡ Some u → (t : Told) × (before ≡ Some t) × (u ≡ without_id id t)
-told-before None after id u is at = absurd (let no : None ≡ Some u = sym is ∙ at in cc)
-told-before (Some t) after id u is at = (t, refl, let same : Some (without_id id t) ≡ Some u = sym is ∙ at in cc)
-
 not-true : (b : Bool) → (b ≡ true → ⊥) → b ≡ false
 not-true true never = absurd (never refl)
 not-true false never = refl
-
--- a step of an id that isn't forgotten, and the other way round
-abbrev pub HasStep : Type 0
-HasStep = (steps : List ToldStep) (id : ℕ) → IsUnforgotten steps id → (s : ToldStep) × Contains steps s × (s.id ≡ id) × (s.forgotten ≡ false)
-
-abbrev pub StepIsKept : Type 0
-StepIsKept = (steps : List ToldStep) (s : ToldStep) → Contains steps s → s.forgotten ≡ false → IsUnforgotten steps s.id
 
 -- each step was told before or has an id of the search
 told-steps : (h n : HeldView) (assumptions : Assumptions) (v : Verdict) (t u : Told) → TellsVerdict h n assumptions v t u → (s : ToldStep) → Contains u.steps s → WasTold t s ⊎ (h.arena.given ≤ s.id)
@@ -64,27 +53,27 @@ told-steps h n assumptions (verdict.Failed root places) t u told s here = elim (
 told-steps h n assumptions (verdict.Limit lemmas) t u told s here = elim (told.steps s here) [ inl was ↦ inl was | inr of ↦ inr of.later ]
 
 -- so what was forgotten stays so
-stays-forgotten : HasStep → StepIsKept → (given id : ℕ) (t u : Told) → ((s : ToldStep) → Contains u.steps s → WasTold t s ⊎ (given ≤ s.id)) → id < given → (IsUnforgotten t.steps id → ⊥) → IsUnforgotten u.steps id → ⊥
-stays-forgotten has is_kept given id t u steps low never kept =
-    let m = has u.steps id kept in
+stays-forgotten : (given id : ℕ) (t u : Told) → ((s : ToldStep) → Contains u.steps s → WasTold t s ⊎ (given ≤ s.id)) → id < given → (IsUnforgotten t.steps id → ⊥) → IsUnforgotten u.steps id → ⊥
+stays-forgotten given id t u steps low never kept =
+    let m = unforgotten_step u.steps id kept in
     elim (steps m.0 m.1) [
-      | inl was ↦ never (subst (IsUnforgotten t.steps) (was.2 ∙ m.2) (is_kept t.steps was.0 was.1 (not-true was.0.forgotten (λ f. let no : true ≡ false = sym (was.5 f) ∙ m.3 in cc))))
+      | inl was ↦ never (subst (IsUnforgotten t.steps) (was.2 ∙ m.2) (IsUnforgotten-step t.steps was.0 was.1 (not-true was.0.forgotten (λ f. let no : true ≡ false = sym (was.5 f) ∙ m.3 in cc))))
       | inr later ↦ omega (arith, later, m.2, low)
     ]
 
 -- the root before a search is forgotten after it
-pub root-forgotten : HasStep → StepIsKept → (s : StateView) (mid after : Option Told) (g n : HeldView) (assumptions : Assumptions) (v : Verdict) → IsState s → ((id : ClauseId) → s.root ≡ Some id → mid ≡ option_map (without_id id.0) s.told) → g ≡ s.held → is_some after ≡ is_some mid → IsVerdictTold g n assumptions v mid after → (k : ℕ) → root_number s.root ≡ Some k → ForSome after (λ t. IsUnforgotten t.steps k → ⊥)
-root-forgotten has is_kept s mid after g n assumptions v state forgotten same tells told k number u at live =
+pub root-forgotten : (s : StateView) (mid after : Option Told) (g n : HeldView) (assumptions : Assumptions) (v : Verdict) → IsState s → ((id : ClauseId) → s.root ≡ Some id → mid ≡ option_map (without_id id.0) s.told) → g ≡ s.held → is_some after ≡ is_some mid → IsVerdictTold g n assumptions v mid after → (k : ℕ) → root_number s.root ≡ Some k → ForSome after (λ t. IsUnforgotten t.steps k → ⊥)
+root-forgotten s mid after g n assumptions v state forgotten same tells told k number u at live =
     let id = number-is s.root k number in
-    let m = told-still mid after u tells at in
-    let t = told-before s.told mid id.0.0 m.0 (forgotten id.0 id.1) m.1 in
+    let m = told_before mid after u tells at in
+    let t = before_forgotten s.told mid id.0.0 m.0 (forgotten id.0 id.1) m.1 in
     let below : id.0.0 < s.held.arena.given = unforgotten-below t.0 (held_clause s.held.arena) s.held.arena.given id.0.0 (state.begins.covers t.0 t.1) (state.root_of id.0 id.1 t.0 t.1).0 in
     let low : k < g.arena.given = subst (λ (b : HeldView). k < b.arena.given) (sym same) (subst (λ (x : ℕ). x < s.held.arena.given) id.2 below) in
     let never : IsUnforgotten m.0.steps k → ⊥ = λ was.
     let none : list_any (λ (q : ToldStep). eqb q.id id.0.0 && not q.forgotten) m.0.steps ≡ false = ap (λ (w : Told). list_any (λ (q : ToldStep). eqb q.id id.0.0 && not q.forgotten) w.steps) t.2 ∙ gone id.0.0 t.0.steps in
     let no : false ≡ true = sym none ∙ subst (IsUnforgotten m.0.steps) (sym id.2) was in
     cc in
-    stays-forgotten has is_kept g.arena.given k m.0 u (told-steps g n assumptions v m.0 u (told m.0 u m.1 at)) low never live
+    stays-forgotten g.arena.given k m.0 u (told-steps g n assumptions v m.0 u (told m.0 u m.1 at)) low never live
 
 -- the root of a solver is an empty clause that isn't forgotten
 pub root-told : (dead : Bool) (s : StateView) → (dead ≡ false → IsState s) → (k : ℕ) → cond dead None (root_number s.root) ≡ Some k → ForSome s.told (λ t. IsUnforgotten t.steps k × (clause_told t.steps k ≡ Some []))

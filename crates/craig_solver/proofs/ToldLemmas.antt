@@ -12,7 +12,7 @@ use Rattle.craig_base.specs.declared.script_part.Part.{Part}
 use Rattle.craig_proof.specs.Covers.{Covers}
 use Rattle.craig_proof.specs.Tracer.{Appends, original_step}
 use Rattle.craig_search.specs.Tells.{IsStillTold}
-use Rattle.craig_search.proofs.TellsLemmas.{before_step}
+use Rattle.craig_proof.proofs.AppendsLemmas.{before_step}
 use Rattle.craig_solver.specs.Told.{AreAccepted, AreAllTold, IsAcceptedStep, IsClauseTold}
 
 -- with one more accepted clause, each step is one as before

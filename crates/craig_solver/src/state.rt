@@ -129,7 +129,6 @@ impl<T: Tracer> State<T> {
         ensures kept { T.kept self.new.tracer ≡ T.kept self.old.tracer }
     {
         craig_proof::laws::covered_chain_is_told();
-        craig_proof::laws::covering_is_kept();
         let id = self.held.hold(lits, ORIGINAL)?;
         self.tracer.original(id, part, lits)?;
         self.held_ids.push(id)?;
@@ -154,9 +153,6 @@ impl<T: Tracer> State<T> {
         ensures tells { is_some (T.told self.new.tracer) ≡ is_some (T.told self.old.tracer) }
         ensures kept { T.kept self.new.tracer ≡ T.kept self.old.tracer }
     {
-        craig_base::laws::clauses_are_found();
-        craig_base::laws::models_of_an_arena();
-        craig_proof::laws::steps_are_found();
         let alloc = *self.accepted.allocator();
         self.forget_root();
         let held = &mut self.held;
@@ -174,7 +170,6 @@ impl<T: Tracer> State<T> {
         ensures tells { is_some (T.told self.new.tracer) ≡ is_some (T.told self.old.tracer) }
         ensures kept { T.kept self.new.tracer ≡ T.kept self.old.tracer }
     {
-        craig_proof::laws::covering_is_kept();
         let root = self.root;
         forget_told(&mut self.tracer, root);
         self.root = None;

@@ -13,7 +13,7 @@ use Rattle.craig_search.proofs.conflict_driven.run.Goals as goal
 
 pub loop-order-init : goal.loop-order-init
 loop-order-init g c = record {
-  searching = IsSearching-start c.models_of_an_arena.ensures.looked_up c.clauses_are_found.ensures.listed c.args.held.now (g.T.Tracer.told c.args.tracer.now) c.requires.consistent;
+  searching = IsSearching-start c.args.held.now (g.T.Tracer.told c.args.tracer.now) c.requires.consistent;
   ready = c.requires.ready;
   covers = c.requires.covers;
   order = refl;
@@ -44,7 +44,7 @@ returns-in-None-next-clause-outcome g c =
       );
       consistent = c.in_ok-propagate.ensures.consistent;
       alive = c.in_ok-propagate.ensures.alive;
-      covers = covers-reordered c.covering_is_kept.ensures.fewer (g.T.Tracer.told c.loop-order.tracer) c.loop-order.held.arena p.arena c.loop-order.invariant.covers lengthened.clauses;
+      covers = covers-reordered (g.T.Tracer.told c.loop-order.tracer) c.loop-order.held.arena p.arena c.loop-order.invariant.covers lengthened.clauses;
     }
 
 pub decide-requires-clause-known : goal.decide-requires-clause-known
@@ -75,7 +75,7 @@ loop-order-preserved-in-Some-next g c =
     let e : TrailEntry = record { literal = c.in-Some-next.lit; level = p.level + 1; reason = None } in
     let search = IsSearching-lengthened c.args.held.now old p _ _ c.loop-order.invariant.searching lengthened in
     let ready = IsReady-longer old p c.loop-order.order lengthened.added c.loop-order.invariant.ready lengthened.vars lengthened.trail in
-    let covers = covers-reordered c.covering_is_kept.ensures.fewer (g.T.Tracer.told c.loop-order.tracer) old.arena p.arena c.loop-order.invariant.covers lengthened.clauses in
+    let covers = covers-reordered (g.T.Tracer.told c.loop-order.tracer) old.arena p.arena c.loop-order.invariant.covers lengthened.clauses in
     record {
       searching = subst (λ (h : HeldView). IsSearching c.args.held.now h (g.T.Tracer.told c.args.tracer.now) (g.T.Tracer.told c.loop-order.tracer)) (sym decided) (IsSearching-moved c.args.held.now p _ _ _ _ search);
       ready = IsReady-decided p new c.loop-order.order c.next.new.self e ready (ap (λ (h : HeldView). h.vars) decided) (ap (λ (h : HeldView). h.trail) decided) c.in-Some-next.ensures.others;
@@ -91,7 +91,7 @@ refuted-requires-clause-conflict g c =
 
 pub refuted-requires-clause-covers : goal.refuted-requires-clause-covers
 refuted-requires-clause-covers g c =
-    covers-reordered c.covering_is_kept.ensures.fewer (g.T.Tracer.told c.loop-order.tracer) c.loop-order.held.arena c.propagate.new.self.arena c.loop-order.invariant.covers c.in_ok-propagate.ensures.lengthened.clauses
+    covers-reordered (g.T.Tracer.told c.loop-order.tracer) c.loop-order.held.arena c.propagate.new.self.arena c.loop-order.invariant.covers c.in_ok-propagate.ensures.lengthened.clauses
 
 pub returns-then-level-eq0-clause-outcome : goal.returns-then-level-eq0-clause-outcome
 returns-then-level-eq0-clause-outcome g c =
@@ -124,7 +124,7 @@ learn-requires-clause-under_way g c =
     record {
       consistent = c.in_ok-propagate.ensures.consistent;
       ready = IsReady-longer c.loop-order.held c.propagate.new.self c.loop-order.order lengthened.added c.loop-order.invariant.ready lengthened.vars lengthened.trail;
-      covers = covers-reordered c.covering_is_kept.ensures.fewer (g.T.Tracer.told c.loop-order.tracer) c.loop-order.held.arena c.propagate.new.self.arena c.loop-order.invariant.covers lengthened.clauses;
+      covers = covers-reordered (g.T.Tracer.told c.loop-order.tracer) c.loop-order.held.arena c.propagate.new.self.arena c.loop-order.invariant.covers lengthened.clauses;
     }
 
 pub loop-order-smaller : goal.loop-order-smaller

@@ -40,11 +40,11 @@ returns-in-Some-clause-searched g c =
     let search = outcome.ends.2 in
     let empty = outcome.ends.3 in
     record {
-      verdict = subst (IsRefuted start assumptions) (sym c.none.ensures) (refuted-contradictory c.chain_follows.ensures.follows start last end root _ by_then _ assumptions search empty);
+      verdict = subst (IsRefuted start assumptions) (sym c.none.ensures) (refuted-contradictory start last end root _ by_then _ assumptions search empty);
       at_rest = (ap (λ (h : HeldView). h.level) empty.numbered ∙ outcome.ends.4, refuted-ready last end c.run.new.order root by_then _ outcome.ends.5 empty);
       leaves = refuted-leaves start last end root _ by_then _ search empty;
       consistent = outcome.consistent;
       alive = outcome.alive;
       covers = outcome.covers;
-      told = λ t u is also. subst (λ (places : List ℕ). Tells (held_clause start.arena) start.arena.given (IsUnitId root places) t u × IsRoot end assumptions root places t u) (sym c.none.ensures) (refuted-told c.chain_variables.ensures.given start last end root _ by_then _ assumptions t u search empty is also);
+      told = λ t u is also. subst (λ (places : List ℕ). Tells (held_clause start.arena) start.arena.given (IsUnitId root places) t u × IsRoot end assumptions root places t u) (sym c.none.ensures) (refuted-told start last end root _ by_then _ assumptions t u search empty is also);
     }

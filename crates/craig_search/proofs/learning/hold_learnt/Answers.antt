@@ -9,7 +9,8 @@ use Rattle.craig_search.specs.Searching.{IsNew}
 use Rattle.craig_search.proofs.LeavesLemmas.{Leaves-learnt}
 use Rattle.craig_search.proofs.JournalLemmas.{IsJournal-learnt}
 use Rattle.craig_search.proofs.TellsLemmas.{TellsLearnt-told, derived-of_search}
-use Rattle.craig_search.proofs.CoversLemmas.{covers-told, old_or_added}
+use Rattle.craig_proof.proofs.OldOrNextLemmas.{old_or_added}
+use Rattle.craig_search.proofs.CoversLemmas.{covers-told}
 use Rattle.craig_search.proofs.learning.hold_learnt.Goals as goal
 
 pub hold-requires-clause-fits : goal.hold-requires-clause-fits
@@ -32,9 +33,9 @@ returns-clause-goes_on g c =
     let chain_too = subst (λ (xs : List Step). ChainOk (held_clause old.arena) c.as_slice-lits.result.now c.args.learnt.now.first.0 (chain_of xs)) (sym c.as_slice-rest.ensures) chain in
     let new = subst (IsNew old.arena) (sym c.as_slice-lits.ensures) c.requires.new in
     λ start before search. record {
-      leaves = Leaves-learnt c.chain_follows.ensures.follows c.chain_variables.ensures.variables start old c.hold.new.self c.in_ok-id.id.0 _ _ _ search.leaves (ap (λ (h : HeldView). h.vars) held) (ap (λ (h : HeldView). h.dead) held) given c.in_ok-id.ensures.next c.in_ok-id.ensures.fresh c.in_ok-id.ensures.only refl chain;
+      leaves = Leaves-learnt start old c.hold.new.self c.in_ok-id.id.0 _ _ _ search.leaves (ap (λ (h : HeldView). h.vars) held) (ap (λ (h : HeldView). h.dead) held) given c.in_ok-id.ensures.next c.in_ok-id.ensures.fresh c.in_ok-id.ensures.only refl chain;
       journal = IsJournal-learnt start.arena.given old.arena c.hold.new.self.arena c.in_ok-id.id.0 _ search.journal given c.in_ok-id.ensures.next c.in_ok-id.ensures.fresh c.in_ok-id.ensures.only c.in_ok-id.ensures.consistent.arena new;
-      tells = TellsLearnt-told start before _ _ _ search.tells c.in_ok-derived.ensures.told (derived-of_search c.chain_variables.ensures.given (λ (id : ℕ). ⊥) start old _ _ _ _ search.leaves c.in_ok-id.ensures.next chain_too);
+      tells = TellsLearnt-told start before _ _ _ search.tells c.in_ok-derived.ensures.told (derived-of_search (λ (id : ℕ). ⊥) start old _ _ _ _ search.leaves c.in_ok-id.ensures.next chain_too);
     }
 
 pub returns-clause-covers : goal.returns-clause-covers
@@ -42,4 +43,4 @@ returns-clause-covers g c =
     let old = c.args.held.now in
     let chain = subst (λ (d : Clause). ChainOk (held_clause old.arena) d c.args.learnt.now.first.0 (chain_of c.args.learnt.now.rest)) (sym c.as_slice-lits.ensures) c.requires.derived.chain in
     let chain_too = subst (λ (xs : List Step). ChainOk (held_clause old.arena) c.as_slice-lits.result.now c.args.learnt.now.first.0 (chain_of xs)) (sym c.as_slice-rest.ensures) chain in
-    covers-told c.covering_is_kept.ensures.derived _ _ old.arena c.hold.new.self.arena _ _ _ _ c.requires.covers c.in_ok-derived.ensures.told c.in_ok-id.ensures.next (ap (λ (h : HeldView). h.arena.given) c.in_ok-id.ensures.held) chain_too (old_or_added old.arena c.hold.new.self.arena c.in_ok-id.id.0 _ c.in_ok-id.ensures.fresh c.in_ok-id.ensures.only)
+    covers-told _ _ old.arena c.hold.new.self.arena _ _ _ _ c.requires.covers c.in_ok-derived.ensures.told c.in_ok-id.ensures.next (ap (λ (h : HeldView). h.arena.given) c.in_ok-id.ensures.held) chain_too (old_or_added old.arena c.hold.new.self.arena c.in_ok-id.id.0 _ c.in_ok-id.ensures.fresh c.in_ok-id.ensures.only)

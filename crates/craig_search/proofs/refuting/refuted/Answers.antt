@@ -25,7 +25,7 @@ returns-clause-covers g c =
     let chain = subst (λ (d : Clause). ChainOk (held_clause old.arena) d c.in_ok-empty.empty.first.0 (chain_of c.in_ok-empty.empty.rest)) (sym c.as_slice-lits.ensures) c.in_ok-empty.ensures.derived.chain in
     let chain_too = subst (λ (xs : List Step). ChainOk (held_clause old.arena) c.as_slice-lits.result.now c.in_ok-empty.empty.first.0 (chain_of xs)) (sym c.as_slice-rest.ensures) chain in
     let none = ap (option_map (λ (f : FlaggedClause). f.literals)) c.in_ok-root.ensures.fresh in
-    covers-numbered c.covering_is_kept.ensures.derived _ _ old.arena c.number.new.self.arena _ _ _ _ c.requires.covers c.in_ok-derived.ensures.told c.in_ok-root.ensures.next given same chain_too none
+    covers-numbered _ _ old.arena c.number.new.self.arena _ _ _ _ c.requires.covers c.in_ok-derived.ensures.told c.in_ok-root.ensures.next given same chain_too none
 
 pub returns-clause-refuted : goal.returns-clause-refuted
 returns-clause-refuted g c =

@@ -6,4 +6,4 @@ forget_told-requires g c = λ id is. root-unforgotten _ id c.requires is
 
 pub returns-clause-state : goal.returns-clause-state
 returns-clause-state g c =
-    IsState-root_forgotten c.covering_is_kept.ensures.forgotten _ _ c.requires c.forget_told.ensures.none c.forget_told.ensures.told
+    IsState-root_forgotten _ _ c.requires c.forget_told.ensures.none c.forget_told.ensures.told

@@ -8,7 +8,7 @@ pub returns-clause-state : goal.returns-clause-state
 returns-clause-state g c = λ written same.
     let h = c.args.self.now.held in
     let known = All-same_literals (λ (l : Literal). l.var < h.vars) written c.args.lits.now same c.requires.known in
-    IsState-original _ _ _ c.in_ok-id.id c.args.part written (record { literals = c.args.lits.now; flags = record { learnt = false; kept = false; glue = 0 } }) c.requires.state c.in_ok-id.ensures.held c.in_ok-id.ensures.next c.in_ok-id.ensures.fresh c.in_ok-id.ensures.only _ c.in_ok-push.ensures.items c.in_ok-original.ensures.told c.covering_is_kept.ensures.original c.hold.ensures.consistent refl c.requires.normal same known
+    IsState-original _ _ _ c.in_ok-id.id c.args.part written (record { literals = c.args.lits.now; flags = record { learnt = false; kept = false; glue = 0 } }) c.requires.state c.in_ok-id.ensures.held c.in_ok-id.ensures.next c.in_ok-id.ensures.fresh c.in_ok-id.ensures.only _ c.in_ok-push.ensures.items c.in_ok-original.ensures.told c.hold.ensures.consistent refl c.requires.normal same known
 
 pub returns-clause-held : goal.returns-clause-held
 returns-clause-held g c =

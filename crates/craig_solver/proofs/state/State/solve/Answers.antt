@@ -14,7 +14,7 @@ search-requires-clause-begins g c = c.forget_root.ensures.state.begins
 
 pub returns-clause-state : goal.returns-clause-state
 returns-clause-state g c =
-    on_ok_weaker c.answer_for.result (λ rest. IsState-searched c.models_of_an_arena.ensures.model c.clauses_are_found.ensures.looked_up c.steps_are_found.ensures.found _ c.search.new.held _ _ _ _ _ c.args.assumptions.now c.args.limit c.in_ok-verdict.verdict c.forget_root.ensures.state c.requires.no_assumption c.in_ok-verdict.ensures.searched c.search.ensures.tells c.search.ensures.order c.root_of-self.ensures rest c.answer_for.ensures.order) c.answer_for.ensures.at_root
+    on_ok_weaker c.answer_for.result (λ rest. IsState-searched _ c.search.new.held _ _ _ _ _ c.args.assumptions.now c.args.limit c.in_ok-verdict.verdict c.forget_root.ensures.state c.requires.no_assumption c.in_ok-verdict.ensures.searched c.search.ensures.tells c.search.ensures.order c.root_of-self.ensures rest c.answer_for.ensures.order) c.answer_for.ensures.at_root
 
 pub returns-clause-solved : goal.returns-clause-solved
 returns-clause-solved g c =
@@ -27,9 +27,9 @@ returns-clause-solved g c =
     let verdict = c.in_ok-verdict.verdict in
     let accepted = ap (λ (s : StateView). s.accepted) same in
     IfOk-both c.answer_for.result (λ a for rest. record {
-      answer = IsAnswer-searched c.models_of_an_arena.ensures.model c.clauses_are_found.ensures.looked_up c.clauses_are_found.ensures.listed mid.accepted.items _ mid.held found _ c.args.assumptions.now c.args.limit verdict a accepted (ap (λ (s : StateView). s.held.vars) same) state.consistent.arena state.clauses searched.leaves searched.verdict for;
-      tells = TellsAnswer-searched mid.accepted.items _ mid.held found c.args.assumptions.now c.args.limit verdict a (g.T.Tracer.told mid.tracer) _ accepted c.requires.no_assumption c.search.ensures.tells searched.verdict searched.told state.originals for;
+      answer = IsAnswer-searched mid.accepted.items _ mid.held found _ c.args.assumptions.now c.args.limit verdict a accepted (ap (λ (s : StateView). s.held.vars) same) state.consistent.arena state.clauses searched.leaves searched.verdict for;
+      tells = TellsAnswer-searched mid.accepted.items _ mid.held found c.search.new.order c.args.assumptions.now c.args.limit verdict a (g.T.Tracer.told mid.tracer) _ accepted c.search.ensures.tells searched state.originals for;
       root = root_of-answer found verdict a _ c.root_of-self.ensures for;
-      forgets = root-forgotten c.steps_are_found.ensures.unforgotten c.steps_are_found.ensures.kept _ (g.T.Tracer.told mid.tracer) _ mid.held found c.args.assumptions.now verdict c.requires.state c.forget_root.ensures.forgets.told (ap (λ (s : StateView). s.held) same) c.search.ensures.tells searched.told;
+      forgets = root-forgotten _ (g.T.Tracer.told mid.tracer) _ mid.held found c.args.assumptions.now verdict c.requires.state c.forget_root.ensures.forgets.told (ap (λ (s : StateView). s.held) same) c.search.ensures.tells searched.told;
       held = subst (λ (s : StateView). AreReordered (clauses_under s.held.arena s.held_ids) (clauses_under c.answer_for.new.held.arena mid.held_ids.items)) same (AreReordered-ids mid.held found _ _ mid.held_ids.items searched.leaves state.ids rest);
     }) c.answer_for.ensures.answer c.answer_for.ensures.at_root

@@ -7,7 +7,7 @@ use Rattle.std.proofs.lemmas.List.{get_or_append_left, get_or_at, get_or-map, le
 use Rattle.std.proofs.lemmas.List.Elements.{All-contains, Contains-get_or}
 use Rattle.std.proofs.lemmas.List.Sums.{fold-append}
 use Rattle.std.proofs.lemmas.Option.{get_or_from_slice_get}
-use Rattle.craig_spec.specs.Circuit.{Circuit, Gate, Output, IsCircuit, IsClosed, IsStrict, circuit_cone, circuit_cones, circuit_value, circuit_values, each_variable, gate_cone, gate_value, literal_value_in, variable_count}
+use Rattle.craig_spec.specs.Circuit.{Circuit, Gate, Output, HasOperands, IsCircuit, IsStrict, circuit_cone, circuit_cones, circuit_value, circuit_values, each_variable, gate_cone, gate_value, literal_value_in, variable_count}
 use Rattle.craig_spec.specs.Truth.{Assignment, variable_value}
 use Rattle.craig_spec.proofs.MemberLemmas.{Contains-from_slice_get, list_any-find, list_any-member, slice_get-below}
 use Rattle.craig_top.specs.CircuitShape.{AllAreUsed, GatesAreConjunctions, GatesReachByOperands, GatesStandOnce, InputsAreVariables, IsUsed, NumbersRise, OperandsAreOrdered, OutputsAreLiterals, gate_literal, input_literal}
@@ -188,7 +188,7 @@ module _ (c : Circuit) (v : ℕ) where
   others-outputs : All (λ (o : Output). others (o.literal / 2) ≡ true) c.outputs
   others-outputs k d within = differs_or _ _ (λ h. or_left _ _ (list_any-member (λ (o : Output). eqb (o.literal / 2) v) c.outputs (get_or c.outputs k d) (Contains-get_or c.outputs k d within) h))
 
-  others-closed : IsClosed c others
+  others-closed : HasOperands c others
   others-closed j g is own =
       let here : Contains c.gates g = Contains-from_slice_get c.gates j g is in
       let gate = λ (h : (eqb (g.left / 2) v || eqb (g.right / 2) v) ≡ true). or_right (list_any (λ (o : Output). eqb (o.literal / 2) v) c.outputs) _ (list_any-member (λ (k : Gate). eqb (k.left / 2) v || eqb (k.right / 2) v) c.gates g here h) in

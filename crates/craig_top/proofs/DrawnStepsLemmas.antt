@@ -21,6 +21,9 @@ use Rattle.craig_top.specs.LastRefutation.{IsOfLastRoot, IsRefutationBy}
 use Rattle.craig_top.specs.Named.{named_step}
 use Rattle.craig_top.specs.Naming.{named_clause}
 use Rattle.craig_top.specs.GivenState.{State}
+use Rattle.craig_top.proofs.ListedLiteralsLemmas.{not_both}
+use Rattle.craig_top.proofs.NotedLemmas.{IsOriginal-from, same_part}
+use Rattle.craig_top.proofs.PutRepliesLemmas.{slice_get-front}
 use Rattle.craig_spec.specs.Cut.{PartLiteral}
 
 -- ---- resolvents
@@ -46,10 +49,6 @@ module _ (pivot : Literal) (c d r : Clause) (resolved : IsResolvent pivot c d r)
 
   pub has_no_other : HasNoOther pivot c d r
   has_no_other l here = (resolved.literals l).0 here
-
-not_both : (b : Bool) → b ≡ true → not b ≡ true → ⊥
-not_both true t f = absurd (let no : false ≡ true = f in cc)
-not_both false t f = absurd (let no : false ≡ true = t in cc)
 
 -- a resolvent is true where both clauses are
 pub follows_from : (pivot : Literal) (c d r : Clause) → IsResolvent pivot c d r → FollowsFrom c d r
@@ -87,16 +86,6 @@ chain_along f literals first rest ok =
 
 -- ---- steps
 
-is_original : (o : Origin) (part : ℕ) → o ≡ Original part → IsOriginal o
-is_original o part e = subst IsOriginal (sym e) tt
-
-same_part : (o : Origin) (p q : ℕ) → o ≡ Original p → o ≡ Original q → p ≡ q
-same_part o p q e f = let h : Original p ≡ Original q = sym e ∙ f in cc
-
-slice_get-last : {A : Type 0} (before : List A) (x : A) → slice_get (before ++ x ∷ []) (length before) ≡ Some x
-slice_get-last [] x = refl
-slice_get-last (y ∷ before) x = slice_get-last before x
-
 module _ (clauses : List PartClause) (steps : List ToldStep) (root : ℕ) (refutes : IsRefutationOf clauses steps root) where
   pub ids_rise : IdsRise steps
   ids_rise i r s one next =
@@ -107,14 +96,14 @@ module _ (clauses : List PartClause) (steps : List ToldStep) (root : ℕ) (refut
 
   pub originals_are_clauses : OriginalsAreClauses clauses steps
   originals_are_clauses step part here is =
-      let from = refutes.originals step here (is_original step.origin part is) in
+      let from = refutes.originals step here (IsOriginal-from step.origin part is) in
       (from.source, from.is_one, same_part step.origin (from.source).part part from.part is, from.literals)
 
   pub originals_are_normal : OriginalsAreNormal steps
   originals_are_normal step part here is = (once, from.not_tautology)
     where
       from : IsOriginalOf clauses step
-      from = refutes.originals step here (is_original step.origin part is)
+      from = refutes.originals step here (IsOriginal-from step.origin part is)
 
       once : (i j : ℕ) (l : Literal) → slice_get step.literals i ≡ Some l → slice_get step.literals j ≡ Some l → i ≡ j
       once i j l one other =
@@ -147,7 +136,7 @@ module _ (clauses : List PartClause) (steps : List ToldStep) (root : ℕ) (refut
   steps_count = ap length refutes.ends ∙ length-append refutes.before (refutes.last ∷ []) ∙ (let one : length refutes.before + suc zero ≡ length refutes.before + 1 = omega arith in one)
 
   at_the_end : slice_get steps (length refutes.before) ≡ Some refutes.last
-  at_the_end = ap (λ rs. slice_get rs (length refutes.before)) refutes.ends ∙ slice_get-last refutes.before refutes.last
+  at_the_end = ap (λ rs. slice_get rs (length refutes.before)) refutes.ends ∙ slice_get-front refutes.before refutes.last []
 
   pub end_in_the_empty_clause : EndInTheEmptyClause steps root
   end_in_the_empty_clause = (length refutes.before, refutes.last, steps_count, at_the_end, refutes.root_is, refutes.empty)

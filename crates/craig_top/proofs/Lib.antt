@@ -34,3 +34,5 @@ pub mod CircuitShapeLemmas
 pub mod TruePartsLemmas
 pub mod DrawnStepsLemmas
 pub mod ReplyContentsLemmas
+pub mod ScriptLinesLemmas
+pub mod CommandLinesLemmas

@@ -22,7 +22,8 @@ list_all-from_members p (x ∷ xs) each = and_from _ _ (each x (Contains-front x
 same_literal : (l m : Literal) → l.var ≡ m.var → l.negated ≡ m.negated → l ≡ m
 same_literal l m v s = λ i. record { var = v i; negated = s i }
 
-not_both : (b : Bool) → b ≡ true → not b ≡ true → ⊥
+-- nothing is both true and false
+pub not_both : (b : Bool) → b ≡ true → not b ≡ true → ⊥
 not_both true t f = absurd (let no : false ≡ true = f in cc)
 not_both false t f = absurd (let no : false ≡ true = t in cc)
 

@@ -10,7 +10,7 @@ use Rattle.craig_top.specs.declared.status.Status.{Status}
 use Rattle.craig_top.specs.declared.status.Status.TheVariants.{Done, Usage, ReadFault, WriteFault, TooLong, NoMemory}
 use Rattle.craig_top.specs.Ending.{EndsDone, Promise}
 use Rattle.craig_top.specs.GivenState.{State, next, after, start}
-use Rattle.craig_top.specs.PutReplies.{AreFirstReplies, AreReplies, EachIsAnswered, IsAppended, IsBrokenOff, IsDoneOrNoMemory, Takes}
+use Rattle.craig_top.specs.PutReplies.{AreFirstReplies, AreReplies, EachIsAnswered, StandsBehind, IsBrokenOff, IsDoneOrNoMemory, Takes}
 use Rattle.craig_top.specs.Reply.{Reply}
 use Rattle.craig_top.specs.Transcript.{BeginsTranscript, BreaksOff, Transcript}
 
@@ -31,10 +31,12 @@ transcript_replies state (line ∷ lines) text (reply, rest, allowed, others, is
       is ∙ ap (λ z. reply ++ z) found.3,
     )
 
+-- the front of a list
 take-front : {A : Type 0} (front back : List A) → take (length front) (front ++ back) ≡ front
 take-front front back = take-append_seam front back
 
-slice_get-front : {A : Type 0} (front : List A) (x : A) (back : List A) → slice_get (front ++ x ∷ back) (length front) ≡ Some x
+-- what stands behind the front
+pub slice_get-front : {A : Type 0} (front : List A) (x : A) (back : List A) → slice_get (front ++ x ∷ back) (length front) ≡ Some x
 slice_get-front [] x back = refl
 slice_get-front (y ∷ front) x back = slice_get-front front x back
 
@@ -86,7 +88,7 @@ module _ (settings : Settings) (bound : ℕ) (all : List ℕ) (left : Option (Li
 
   -- ---- which replies were put
   module _ (held : List ℕ) (later : Option (List ℕ)) where
-    pub put-done : Promise settings bound Done (Some all) left (Some held) later → IsAppended held later (AreReplies (start settings) (script_lines all))
+    pub put-done : Promise settings bound Done (Some all) left (Some held) later → StandsBehind held later (AreReplies (start settings) (script_lines all))
     put-done promise =
         let p = promise all refl in
         let same : p.0 ≡ all = sym (p.2 ∙ ap (λ z. p.0 ++ z) p.4.0 ∙ append-nil p.0) in
@@ -99,25 +101,25 @@ module _ (settings : Settings) (bound : ℕ) (all : List ℕ) (left : Option (Li
         let t = p.5 held refl in
         t.1 ∙ ap (λ z. Some (held ++ z)) t.2 ∙ ap Some (append-nil held)
 
-    pub put-read_fault : Promise settings bound ReadFault (Some all) left (Some held) later → Takes all left (λ taken. IsAppended held later (AreReplies (start settings) (map line_of (whole_lines taken))))
+    pub put-read_fault : Promise settings bound ReadFault (Some all) left (Some held) later → Takes all left (λ taken. StandsBehind held later (AreReplies (start settings) (map line_of (whole_lines taken))))
     put-read_fault promise =
         let p = promise all refl in
         let t = p.5 held refl in
         (p.0, (p.1, p.2, p.3), (t.0, t.1, transcript_replies (start settings) (map line_of (whole_lines p.0)) t.0 t.2))
 
-    pub put-write_fault : Promise settings bound WriteFault (Some all) left (Some held) later → IsAppended held later (IsBrokenOff (start settings) (script_lines all))
+    pub put-write_fault : Promise settings bound WriteFault (Some all) left (Some held) later → StandsBehind held later (IsBrokenOff (start settings) (script_lines all))
     put-write_fault promise =
         let p = promise all refl in
         let t = p.5 held refl in
         (t.0, t.1, subst (λ z. IsBrokenOff (start settings) (script_lines z) t.0) (sym p.2) (broken_off (start settings) (script_lines (p.0 ++ p.1)) t.0 t.2))
 
-    pub put-too_long : Promise settings bound TooLong (Some all) left (Some held) later → Takes all left (λ taken. IsAppended held later (AreReplies (start settings) (map line_of (whole_lines taken))))
+    pub put-too_long : Promise settings bound TooLong (Some all) left (Some held) later → Takes all left (λ taken. StandsBehind held later (AreReplies (start settings) (map line_of (whole_lines taken))))
     put-too_long promise =
         let p = promise all refl in
         let t = p.5 held refl in
         (p.0, (p.1, p.2, p.3), (t.0, t.1, transcript_replies (start settings) (map line_of (whole_lines p.0)) t.0 t.2))
 
-    pub put-no_memory : Promise settings bound NoMemory (Some all) left (Some held) later → IsAppended held later (AreFirstReplies (start settings) (script_lines all))
+    pub put-no_memory : Promise settings bound NoMemory (Some all) left (Some held) later → StandsBehind held later (AreFirstReplies (start settings) (script_lines all))
     put-no_memory promise =
         let p = promise all refl in
         let t = p.5 held refl in

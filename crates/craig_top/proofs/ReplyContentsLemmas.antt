@@ -15,21 +15,22 @@ use Rattle.craig_top.specs.CircuitShape.{AllAreUsed, GatesAreConjunctions, Gates
 use Rattle.craig_top.specs.GivenState.{State, next, obeyed_if_admitted, reading}
 use Rattle.craig_top.specs.RefutationReply.{IsCircuitText, IsRefutationReply, cut_names, output_literals}
 use Rattle.craig_top.specs.Reply.{Reply, RepliesToReading, assumptions_of}
-use Rattle.craig_top.specs.ReplyContents.{AreNamed, HasAccepted, IsReadAs, IsStrictText, PrintsModel}
+use Rattle.craig_top.specs.ReplyContents.{HaveTheNames, HasAccepted, IsTextOf, IsStrictText, PrintsModel}
 use Rattle.craig_top.specs.ReplyTexts.{literals_text, ok_text, refusal_text}
 use Rattle.craig_top.specs.TrueParts.{AreNamedByCuts}
+use Rattle.craig_top.proofs.TruePartsLemmas.{some_same}
 use Rattle.craig_top.proofs.CircuitShapeLemmas.{all_are_used, gates_are_conjunctions, gates_stand_once, inputs_rise, operands_are_ordered, outputs_are_literals}
 
 -- ---- texts of circuits
 
 module _ (names : List (List ℕ)) (bytes : List ℕ) (c : Circuit) (text : IsCircuitText names bytes c) where
-  pub read_as : IsReadAs bytes c
+  pub read_as : IsTextOf bytes c
   read_as = (text.reads, gates_are_conjunctions c text.is_circuit, outputs_are_literals c text.is_circuit, text.used)
 
   pub strict_text : IsStrictText bytes
   strict_text = (text.layout, text.written, inputs_rise _ text.strict, operands_are_ordered _ text.strict, gates_stand_once _ text.strict, all_are_used _ text.strict)
 
-  pub are_named : AreNamed names c.outputs
+  pub are_named : HaveTheNames names c.outputs
   are_named = (
     sym (length-map c.outputs (λ (o : Output). o.name)) ∙ ap length text.named,
     λ k o is. ap (λ ns. slice_get ns k) (sym text.named) ∙ slice_get-to_map (λ (o : Output). o.name) c.outputs k o is,
@@ -45,10 +46,7 @@ range_length : (first n : ℕ) → length (range_with_len first n) ≡ n
 range_length first zero = refl
 range_length first (suc n) = ap suc (range_length (first + 1) n)
 
-some_same : {A : Type 0} (x y : A) → Some x ≡ Some y → x ≡ y
-some_same x y e = cc
-
-pub named_by_cuts : (parts : ℕ) (outputs : List Output) → AreNamed (cut_names parts) outputs → AreNamedByCuts parts outputs
+pub named_by_cuts : (parts : ℕ) (outputs : List Output) → HaveTheNames (cut_names parts) outputs → AreNamedByCuts parts outputs
 named_by_cuts parts outputs (count, each) = (
   all,
   λ cut o is.

@@ -98,7 +98,8 @@ module _ (accepted : List PartClause) (failed : List PartLiteral) where
 
 -- ---- failed assumptions
 
-some_same : {A : Type 0} (x y : A) → Some x ≡ Some y → x ≡ y
+-- things that are there are the same
+pub some_same : {A : Type 0} (x y : A) → Some x ≡ Some y → x ≡ y
 some_same x y e = cc
 
 -- a literal has one first place

@@ -1,5 +1,6 @@
 pub mod Appended
 pub mod CircuitShape
+pub mod CommandLines
 pub mod CutLayout
 pub mod DrawnSteps
 pub mod Emptied

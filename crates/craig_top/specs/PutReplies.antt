@@ -8,16 +8,16 @@ use Rattle.craig_top.specs.GivenState.{State, after}
 use Rattle.craig_top.specs.Reply.{Reply}
 
 -- all bytes are those taken and then those that are left
-abbrev pub IsTaken : (all : List ℕ) → (left : Option (List ℕ)) → (taken : List ℕ) → Type 0
-IsTaken all left taken = (rest : List ℕ) × (all ≡ taken ++ rest) × (left ≡ Some rest)
+abbrev pub AreTakenBytes : (all : List ℕ) → (left : Option (List ℕ)) → (taken : List ℕ) → Type 0
+AreTakenBytes all left taken = (rest : List ℕ) × (all ≡ taken ++ rest) × (left ≡ Some rest)
 
 -- these bytes were taken, and something holds of them
 abbrev pub Takes : (all : List ℕ) → (left : Option (List ℕ)) → (List ℕ → Type 0) → Type 0
-Takes all left P = (taken : List ℕ) × IsTaken all left taken × P taken
+Takes all left P = (taken : List ℕ) × AreTakenBytes all left taken × P taken
 
 -- behind the bytes held stands a text of which something holds
-abbrev pub IsAppended : (held : List ℕ) → (held_after : Option (List ℕ)) → (List ℕ → Type 0) → Type 0
-IsAppended held held_after P = (text : List ℕ) × (held_after ≡ Some (held ++ text)) × P text
+abbrev pub StandsBehind : (held : List ℕ) → (held_after : Option (List ℕ)) → (List ℕ → Type 0) → Type 0
+StandsBehind held held_after P = (text : List ℕ) × (held_after ≡ Some (held ++ text)) × P text
 
 -- for each line there is a reply at its place, which is allowed in the state that the lines before it left
 abbrev pub EachIsAnswered : State → List Line → List (List ℕ) → Type 0

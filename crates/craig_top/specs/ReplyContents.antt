@@ -12,16 +12,16 @@ use Rattle.craig_top.specs.ModelReply.{IsModelReply}
 use Rattle.craig_top.specs.ReplyTexts.{literals_text}
 
 -- the bytes read back as the circuit, whose gates are conjunctions, whose outputs are its literals, and each of whose inputs is in the cone of an output
-abbrev pub IsReadAs : List ℕ → Circuit → Type 0
-IsReadAs bytes c = (read_aag bytes ≡ Some c) × GatesAreConjunctions c × OutputsAreLiterals c × InputsAreInCones c
+abbrev pub IsTextOf : List ℕ → Circuit → Type 0
+IsTextOf bytes c = (read_aag bytes ≡ Some c) × GatesAreConjunctions c × OutputsAreLiterals c × InputsAreInCones c
 
 -- the bytes are the text of a layout whose inputs rise, whose gates have the greater operand first, below themselves, and stand once, and where nothing is unused
 abbrev pub IsStrictText : List ℕ → Type 0
 IsStrictText bytes = (layout : Layout) × (bytes ≡ aag_text layout) × NumbersRise layout.inputs × OperandsAreOrdered (circuit_of layout) × GatesStandOnce (circuit_of layout) × AllAreUsed (circuit_of layout)
 
 -- there are as many outputs as names, and each has the name at its place
-abbrev pub AreNamed : List (List ℕ) → List Output → Type 0
-AreNamed names outputs = (length outputs ≡ length names) × ((k : ℕ) (o : Output) → slice_get outputs k ≡ Some o → slice_get names k ≡ Some o.name)
+abbrev pub HaveTheNames : List (List ℕ) → List Output → Type 0
+HaveTheNames names outputs = (length outputs ≡ length names) × ((k : ℕ) (o : Output) → slice_get outputs k ≡ Some o → slice_get names k ≡ Some o.name)
 
 -- the text prints the literals of a model of the accepted clauses and of the assumed literals
 abbrev pub PrintsModel : List PartClause → List (ℕ × ℤ) → List ℕ → Type 0

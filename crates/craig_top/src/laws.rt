@@ -5,6 +5,7 @@
 
 mod circuits;
 mod cuts;
+mod lines;
 mod models;
 mod refutations;
 mod replies;
@@ -12,6 +13,7 @@ mod runs;
 
 pub use circuits::{literals_of_a_circuit, strict_circuits};
 pub use cuts::{failed_assumptions, interpolants_at_cuts, nothing_left};
+pub use lines::{lines_of_a_script, words_of_commands};
 pub use models::literals_of_a_model;
 pub use refutations::{
     clauses_along_a_chain, resolvents, steps_of_a_refutation, steps_of_the_last_root,

@@ -15,15 +15,15 @@ ghost use Rattle.craig_top.specs.DrawnSteps.{AreByTheRules};
 ghost use Rattle.craig_top.specs.GivenState.{State, next, reading, script_literal, start};
 ghost use Rattle.craig_top.specs.RefutationReply.{IsCircuitText, IsRefutationReply, output_literals};
 ghost use Rattle.craig_top.specs.Reply.{Reply, assumptions_of};
-ghost use Rattle.craig_top.specs.ReplyContents.{AreNamed, HasAccepted, IsReadAs, IsStrictText, PrintsModel};
+ghost use Rattle.craig_top.specs.ReplyContents.{HaveTheNames, HasAccepted, IsTextOf, IsStrictText, PrintsModel};
 ghost use Rattle.craig_top.specs.ReplyTexts.{literals_text, refusal_text};
 ghost use Rattle.craig_top.specs.TrueParts.{AreFirstOnes, AreImplied, AreNamedByCuts, AreOfAllCuts, AreRefuted, AreTrueWith, FirstPlacesRise, HaveWith, ImplyTheNext, ReachSharedVariables};
 
 /// The text of a circuit reads back as it, and is laid out strictly; its outputs have the names.
 pub fn texts_of_circuits()
-    ensures read { (names : List (List ℕ)) (bytes : List ℕ) (c : Circuit) → IsCircuitText names bytes c → IsReadAs bytes c }
+    ensures read { (names : List (List ℕ)) (bytes : List ℕ) (c : Circuit) → IsCircuitText names bytes c → IsTextOf bytes c }
     ensures strict { (names : List (List ℕ)) (bytes : List ℕ) (c : Circuit) → IsCircuitText names bytes c → IsStrictText bytes }
-    ensures named { (names : List (List ℕ)) (bytes : List ℕ) (c : Circuit) → IsCircuitText names bytes c → AreNamed names c.outputs }
+    ensures named { (names : List (List ℕ)) (bytes : List ℕ) (c : Circuit) → IsCircuitText names bytes c → HaveTheNames names c.outputs }
 {}
 
 /// A refuting reply prints some of the assumptions as failed, and then a number of bytes and so many. They read back as
@@ -35,7 +35,7 @@ pub fn texts_of_circuits()
 pub fn contents_of_a_refutation()
     ensures text { (state : State) (assumptions : List PartLiteral) (text : List ℕ) (reply : IsRefutationReply state assumptions text) → text ≡ codes "s UNSATISFIABLE\nf " ++ literals_text (map (λ (f : PartLiteral). f.literal) reply.failed) ++ codes "a " ++ decimal (length reply.bytes) ++ codes "\n" ++ reply.bytes }
     ensures failed { (state : State) (assumptions : List PartLiteral) (text : List ℕ) (reply : IsRefutationReply state assumptions text) → AreFirstOnes assumptions reply.failed × FirstPlacesRise assumptions reply.failed }
-    ensures read { (state : State) (assumptions : List PartLiteral) (text : List ℕ) (reply : IsRefutationReply state assumptions text) → IsReadAs reply.bytes reply.circuit }
+    ensures read { (state : State) (assumptions : List PartLiteral) (text : List ℕ) (reply : IsRefutationReply state assumptions text) → IsTextOf reply.bytes reply.circuit }
     ensures strict { (state : State) (assumptions : List PartLiteral) (text : List ℕ) (reply : IsRefutationReply state assumptions text) → IsStrictText reply.bytes }
     ensures named { (state : State) (assumptions : List PartLiteral) (text : List ℕ) (reply : IsRefutationReply state assumptions text) → AreNamedByCuts state.parts reply.circuit.outputs }
     ensures cuts { (state : State) (assumptions : List PartLiteral) (text : List ℕ) (reply : IsRefutationReply state assumptions text) → AreOfAllCuts state.parts (output_literals reply.circuit) }

@@ -7,7 +7,7 @@ ghost use Rattle.craig_script.specs.Lines.{line_of, script_lines, whole_lines};
 ghost use Rattle.craig_top.specs.declared.settings.Settings.{Settings};
 ghost use Rattle.craig_top.specs.Ending.{EndsDone, Promise};
 ghost use Rattle.craig_top.specs.GivenState.{State, start};
-ghost use Rattle.craig_top.specs.PutReplies.{AreFirstReplies, AreReplies, IsAppended, IsBrokenOff, IsDoneOrNoMemory, Takes};
+ghost use Rattle.craig_top.specs.PutReplies.{AreFirstReplies, AreReplies, StandsBehind, IsBrokenOff, IsDoneOrNoMemory, Takes};
 ghost use Rattle.craig_top.specs.Transcript.{BeginsTranscript, BreaksOff, Transcript};
 
 use crate::status::Status;
@@ -35,12 +35,12 @@ pub fn bytes_taken()
 /// nothing, a reply for each line whose newline was taken, or the replies to some lines from the first on, with the
 /// front of the next reply behind them where a write failed.
 pub fn replies_put()
-    ensures done { (settings : Settings) (bound : ℕ) (all held : List ℕ) (left after : Option (List ℕ)) → Promise settings bound Status.Done (Some all) left (Some held) after → IsAppended held after (AreReplies (start settings) (script_lines all)) }
+    ensures done { (settings : Settings) (bound : ℕ) (all held : List ℕ) (left after : Option (List ℕ)) → Promise settings bound Status.Done (Some all) left (Some held) after → StandsBehind held after (AreReplies (start settings) (script_lines all)) }
     ensures usage { (settings : Settings) (bound : ℕ) (all held : List ℕ) (left after : Option (List ℕ)) → Promise settings bound Status.Usage (Some all) left (Some held) after → after ≡ Some held }
-    ensures read_fault { (settings : Settings) (bound : ℕ) (all held : List ℕ) (left after : Option (List ℕ)) → Promise settings bound Status.ReadFault (Some all) left (Some held) after → Takes all left (λ taken. IsAppended held after (AreReplies (start settings) (map line_of (whole_lines taken)))) }
-    ensures write_fault { (settings : Settings) (bound : ℕ) (all held : List ℕ) (left after : Option (List ℕ)) → Promise settings bound Status.WriteFault (Some all) left (Some held) after → IsAppended held after (IsBrokenOff (start settings) (script_lines all)) }
-    ensures too_long { (settings : Settings) (bound : ℕ) (all held : List ℕ) (left after : Option (List ℕ)) → Promise settings bound Status.TooLong (Some all) left (Some held) after → Takes all left (λ taken. IsAppended held after (AreReplies (start settings) (map line_of (whole_lines taken)))) }
-    ensures no_memory { (settings : Settings) (bound : ℕ) (all held : List ℕ) (left after : Option (List ℕ)) → Promise settings bound Status.NoMemory (Some all) left (Some held) after → IsAppended held after (AreFirstReplies (start settings) (script_lines all)) }
+    ensures read_fault { (settings : Settings) (bound : ℕ) (all held : List ℕ) (left after : Option (List ℕ)) → Promise settings bound Status.ReadFault (Some all) left (Some held) after → Takes all left (λ taken. StandsBehind held after (AreReplies (start settings) (map line_of (whole_lines taken)))) }
+    ensures write_fault { (settings : Settings) (bound : ℕ) (all held : List ℕ) (left after : Option (List ℕ)) → Promise settings bound Status.WriteFault (Some all) left (Some held) after → StandsBehind held after (IsBrokenOff (start settings) (script_lines all)) }
+    ensures too_long { (settings : Settings) (bound : ℕ) (all held : List ℕ) (left after : Option (List ℕ)) → Promise settings bound Status.TooLong (Some all) left (Some held) after → Takes all left (λ taken. StandsBehind held after (AreReplies (start settings) (map line_of (whole_lines taken)))) }
+    ensures no_memory { (settings : Settings) (bound : ℕ) (all held : List ℕ) (left after : Option (List ℕ)) → Promise settings bound Status.NoMemory (Some all) left (Some held) after → StandsBehind held after (AreFirstReplies (start settings) (script_lines all)) }
 {}
 
 /// A run of a told script below the bound, of which no read and no write failed, ends with no other status than `Done`

@@ -1,0 +1,48 @@
+//! What the lines of a script are.
+
+ghost use Rattle.std.specs.Prelude.{◌≡◌, ◌≢◌, ℕ, ◌<◌, ◌≤◌, [], ◌∷◌, ◌++◌, List, Ok, Err, ℤ, Contains, codes, length, map};
+ghost use Rattle.std.specs.List.{flat_map};
+ghost use Rattle.craig_script.specs.declared.command.Command.{Command};
+ghost use Rattle.craig_script.specs.declared.command.Command.TheVariants.{Add, Solve};
+ghost use Rattle.craig_script.specs.declared.line.Line.TheVariants.{Overlong, Text};
+ghost use Rattle.craig_script.specs.declared.refusal.Refusal.TheVariants as refusal;
+ghost use Rattle.craig_script.specs.Lines.{last_part, line_of, script_lines, whole_lines};
+ghost use Rattle.craig_script.specs.Words.{words};
+ghost use Rattle.craig_top.specs.CommandLines.{AreInRange, add_words, solve_words};
+ghost use Rattle.craig_top.specs.GivenState.{State, reading};
+
+/// The bytes of a script are its lines, each with a newline behind it, and what comes after the last newline, which is
+/// a line where it has a byte. None of them has a newline. A line of more than 1048576 bytes is seen as overlong.
+pub fn lines_of_a_script()
+    ensures joined { (bytes : List ℕ) → flat_map (λ line. line ++ codes "\n") (whole_lines bytes) ++ last_part bytes ≡ bytes }
+    ensures no_newline { (bytes line : List ℕ) → Contains (whole_lines bytes) line → ¬ Contains line 10 }
+    ensures last_no_newline { (bytes : List ℕ) → ¬ Contains (last_part bytes) 10 }
+    ensures ended { (bytes : List ℕ) → last_part bytes ≡ [] → script_lines bytes ≡ map line_of (whole_lines bytes) }
+    ensures unended { (bytes : List ℕ) → last_part bytes ≢ [] → script_lines bytes ≡ map line_of (whole_lines bytes ++ last_part bytes ∷ []) }
+    ensures text { (bytes : List ℕ) → length bytes ≤ 1048576 → line_of bytes ≡ Text bytes }
+    ensures overlong { (bytes : List ℕ) → 1048576 < length bytes → line_of bytes ≡ Overlong }
+{}
+
+/// A line that is read as an addition has the word `add`, the decimal forms of its part and of its literals, and 0. One
+/// that is read as a solve has the words `solve` and 0. No line of more than 1048576 bytes is read as a command.
+pub fn words_of_commands()
+    ensures add { (state : State) (bytes : List ℕ) (part : ℕ) (lits : List ℤ) → reading state (Text bytes) ≡ Ok (Add part lits) → (words bytes ≡ add_words part lits) × AreInRange state.parts part lits }
+    ensures solve { (state : State) (bytes : List ℕ) (pairs : List (ℕ × ℤ)) → reading state (Text bytes) ≡ Ok (Solve pairs) → (pairs ≡ []) × (words bytes ≡ solve_words) }
+    ensures short { (state : State) (bytes : List ℕ) (c : Command) → reading state (Text bytes) ≡ Ok c → length bytes ≤ 1048576 }
+    ensures overlong { (state : State) → reading state Overlong ≡ Err refusal.Overlong }
+{
+    craig_script::laws::decimal_forms();
+}
+
+#[cfg(test)]
+mod tests {
+    use super::*;
+    use std::test::Fail;
+
+    #[test]
+    fn the_laws_are_called(_rt: HostRuntime) -> Result<(), Fail> {
+        lines_of_a_script();
+        words_of_commands();
+        Ok(())
+    }
+}

@@ -1,5 +1,5 @@
 -- What the variables of a circuit have, one after another, and the shape of a strict circuit.
-use Rattle.std.proofs.Common.{◌≡◌, ◌≢◌, ◌∙◌, sym, ap, subst, refl, ◌⊎◌, inl, inr, ℕ, zero, suc, ◌+◌, ◌*◌, ◌/◌, ◌%◌, ◌<◌, ◌≤◌, Bool, true, false, not, ◌&&◌, ◌||◌, ◌==◌, cond, List, [], ◌∷◌, ◌++◌, length, map, take, drop, get_or, Contains, All, Some, slice_get, arith, eqb, eqb-true, eq-eqb, length-append, length-take-le}
+use Rattle.std.proofs.Common.{◌≡◌, ◌∙◌, sym, ap, refl, inl, inr, ℕ, suc, ◌+◌, ◌*◌, ◌/◌, ◌%◌, ◌<◌, ◌≤◌, Bool, true, false, not, ◌&&◌, ◌||◌, ◌==◌, cond, List, [], ◌∷◌, ◌++◌, length, map, take, drop, get_or, Contains, All, Some, slice_get, arith, eqb, eqb-true, eq-eqb, length-append, length-take-le}
 use Rattle.std.specs.List.{fold, list_any}
 use Rattle.std.proofs.Math.Seq.{drop-cons}
 use Rattle.std.proofs.lemmas.Bool.{cases_order, or_cases, or_left, or_right}
@@ -10,7 +10,7 @@ use Rattle.std.proofs.lemmas.Option.{get_or_from_slice_get}
 use Rattle.craig_spec.specs.Circuit.{Circuit, Gate, Output, HasOperands, IsCircuit, IsStrict, circuit_cone, circuit_cones, circuit_value, circuit_values, each_variable, gate_cone, gate_value, literal_value_in, variable_count}
 use Rattle.craig_spec.specs.Truth.{Assignment, variable_value}
 use Rattle.craig_spec.proofs.MemberLemmas.{Contains-from_slice_get, list_any-find, list_any-member, slice_get-below}
-use Rattle.craig_top.specs.CircuitShape.{AllAreUsed, GatesAreConjunctions, GatesReachByOperands, GatesStandOnce, InputsAreVariables, IsUsed, NumbersRise, OperandsAreOrdered, OutputsAreLiterals, gate_literal, input_literal}
+use Rattle.craig_top.specs.CircuitShape.{AllAreUsed, GatesAreConjunctions, GatesReachByOperands, GatesStandOnce, InputsAreVariables, IsUsed, NumbersRise, OperandsAreOrdered, OutputsAreLiterals}
 
 -- ---- what each variable has
 

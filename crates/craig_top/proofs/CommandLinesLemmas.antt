@@ -1,5 +1,5 @@
 -- Which words a line has that is read as a command.
-use Rattle.std.proofs.Common.{◌≡◌, ◌≢◌, ◌∙◌, sym, ap, subst, refl, ◌⊎◌, inl, inr, ℕ, zero, suc, ◌<◌, ◌≤◌, Bool, true, false, not, ◌&&◌, ◌==◌, nat_le, cond, List, [], ◌∷◌, ◌++◌, length, map, Contains, Option, Some, None, option_map, Result, Ok, Err, codes, slice_index, drop, ℤ, pos, negsuc, neg_ℤ, arith, leb-true, le-leb}
+use Rattle.std.proofs.Common.{◌≡◌, ◌∙◌, sym, ap, subst, refl, ℕ, zero, suc, ◌≤◌, Bool, true, false, not, ◌==◌, nat_le, cond, List, [], ◌∷◌, ◌++◌, length, map, Option, Some, None, option_map, Result, Ok, Err, codes, drop, ℤ, pos, neg_ℤ, leb-true}
 use Rattle.std.specs.Fmt.{decimal, signed_decimal}
 use Rattle.std.specs.Int.RustNames.{unsigned_abs}
 use Rattle.std.specs.List.{list_all}
@@ -14,7 +14,7 @@ use Rattle.craig_script.specs.declared.refusal.Refusal.{Refusal}
 use Rattle.craig_script.specs.declared.refusal.Refusal.TheVariants.{Syntax, Overlong, Range, Variable}
 use Rattle.craig_script.specs.Lines.{line_limit}
 use Rattle.craig_script.specs.NumberWords.{is_negated, literal_of, number_of, unless_zero}
-use Rattle.craig_script.specs.Reading.{◌>>=◌, add_of, admitted, command_of, is_comment, is_end, is_within, literals_to_end, or_syntax, parsed, parts_named, read_line, solve_of, then_nothing, variable_limit, variables_named}
+use Rattle.craig_script.specs.Reading.{◌>>=◌, add_of, admitted, command_of, is_comment, is_end, is_within, literals_to_end, or_syntax, parsed, solve_of, then_nothing, variable_limit}
 use Rattle.craig_script.specs.Words.{words}
 use Rattle.craig_spec.proofs.MemberLemmas.{Contains-front, Contains-image, list_all-member}
 use Rattle.craig_top.specs.CommandLines.{AreInRange, add_words, solve_words}

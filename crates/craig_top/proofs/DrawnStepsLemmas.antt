@@ -1,25 +1,24 @@
 -- What the steps of a refutation are, and which of a session's steps they are.
-use Rattle.std.proofs.Common.{◌≡◌, ◌≢◌, ◌∙◌, sym, ap, subst, refl, ◌⊎◌, inl, inr, ℕ, zero, suc, ◌+◌, ◌<◌, ◌≤◌, Bool, true, false, not, cond, List, [], ◌∷◌, ◌++◌, length, take, map, filter, get_or, All, Contains, Option, Some, None, slice_get, arith, length-append}
+use Rattle.std.proofs.Common.{◌≡◌, ◌∙◌, sym, ap, subst, refl, ◌⊎◌, inl, inr, ℕ, zero, suc, ◌+◌, ◌<◌, ◌≤◌, Bool, true, false, cond, List, [], ◌∷◌, length, take, map, filter, get_or, Contains, Option, Some, slice_get, arith, length-append}
 use Rattle.std.proofs.lemmas.Bool.{cases_order}
-use Rattle.std.proofs.lemmas.List.Elements.{All-contains, Contains-append_right, Contains-get_or}
-use Rattle.std.proofs.lemmas.Option.{get_or_from_slice_get, slice_get-get_or}
-use Rattle.craig_spec.specs.Chain.{AreRising, ChainOk, ChainStep, Derived, IsChain, IsResolvent, IsTold, Origin, Original, SameLiterals, StandsOn, Told, ToldStep, antecedents, clause_told}
-use Rattle.craig_spec.specs.Circuit.{Circuit, circuit_value}
+use Rattle.std.proofs.lemmas.List.Elements.{All-contains, Contains-append_right}
+use Rattle.std.proofs.lemmas.Option.{get_or_from_slice_get}
+use Rattle.craig_spec.specs.Chain.{ChainOk, ChainStep, Derived, IsChain, IsResolvent, IsTold, Origin, SameLiterals, StandsOn, Told, ToldStep, antecedents, clause_told}
+use Rattle.craig_spec.specs.Circuit.{Circuit}
 use Rattle.craig_spec.specs.Cut.{PartClause}
 use Rattle.craig_spec.specs.DrawnFromOneRefutation.{DrawnFromOneRefutation, IsOriginalOf, IsRefutationOf, MarkedLiterals, HaveRootValues, occurrence_labelling}
 use Rattle.craig_spec.specs.Literal.{Clause, Literal, negation}
-use Rattle.craig_spec.specs.Needed.{AllFollow, IsNeeded, IsOriginal, unforgotten}
+use Rattle.craig_spec.specs.Needed.{AllFollow, IsNeeded, unforgotten}
 use Rattle.craig_spec.specs.PartialInterpolant.{Labelling, partial_values}
-use Rattle.craig_spec.specs.Truth.{Assignment, IsModel, IsUnsatisfiable, clause_value, literal_value}
+use Rattle.craig_spec.specs.Truth.{Assignment, IsUnsatisfiable, clause_value, literal_value}
 use Rattle.craig_spec.proofs.ClauseLemmas.{clause_value-find, clause_value-member, clause_value-same}
 use Rattle.craig_spec.proofs.LiteralLemmas.{same_or_not, literal_value-negation}
-use Rattle.craig_spec.proofs.MemberLemmas.{Contains-cases, Contains-from_image, Contains-from_slice_get, Contains-front, Contains-image, Contains-later, list_all-member, slice_get-below}
+use Rattle.craig_spec.proofs.MemberLemmas.{Contains-cases, Contains-from_image, Contains-front, Contains-image, Contains-later, list_all-member, slice_get-below}
 use Rattle.craig_spec.proofs.ToldLemmas.{clause_told-find}
 use Rattle.craig_itp.specs.Labellings.{MeetsRules}
-use Rattle.craig_top.specs.DrawnSteps.{AreAlong, AreByTheRules, AreInOrder, AreNeededOnes, ClashOnlyOn, DerivedAreResolved, DerivedFollow, EndInTheEmptyClause, FollowsFrom, HasAllBut, HasNoOther, IdsRise, IsEmptyOne, IsResolvedAt, OriginalsAreClauses, OriginalsAreNormal, StandAlone}
+use Rattle.craig_top.specs.DrawnSteps.{AreAlong, AreByTheRules, AreInOrder, AreNeededOnes, ClashOnlyOn, DerivedAreResolved, DerivedFollow, EndInTheEmptyClause, FollowsFrom, HasAllBut, HasNoOther, IdsRise, IsEmptyOne, IsResolvedAt, OriginalsAreClauses, OriginalsAreNormal}
 use Rattle.craig_top.specs.LastRefutation.{IsOfLastRoot, IsRefutationBy}
 use Rattle.craig_top.specs.Named.{named_step}
-use Rattle.craig_top.specs.Naming.{named_clause}
 use Rattle.craig_top.specs.GivenState.{State}
 use Rattle.craig_top.proofs.ListedLiteralsLemmas.{not_both}
 use Rattle.craig_top.proofs.NotedLemmas.{IsOriginal-from, same_part}

@@ -1,5 +1,5 @@
 -- What the literals of a model reply list.
-use Rattle.std.proofs.Common.{◌≡◌, ◌≢◌, ◌∙◌, sym, ap, subst, refl, ℕ, ◌+◌, ◌<◌, Bool, true, false, not, List, [], ◌∷◌, length, map, get_or, Contains, Some, slice_get, arith, inl, inr, eqb, eqb-true, eq-eqb}
+use Rattle.std.proofs.Common.{◌≡◌, ◌∙◌, sym, ap, subst, refl, ℕ, ◌+◌, ◌<◌, Bool, true, false, not, List, [], ◌∷◌, length, map, get_or, Contains, Some, slice_get, arith, inl, inr, eqb-true, eq-eqb}
 use Rattle.std.specs.List.{list_all}
 use Rattle.std.specs.List.Sorted.{IsStrictlyIncreasing}
 use Rattle.std.proofs.lemmas.Bool.{and_from, or_cases, or_left, or_right, cases_order}
@@ -8,7 +8,7 @@ use Rattle.std.proofs.lemmas.List.Kept.{AllPairs-from_increasing}
 use Rattle.std.proofs.lemmas.Option.{get_or_from_slice_get, slice_get-get_or}
 use Rattle.craig_spec.specs.Literal.{Literal, Clause}
 use Rattle.craig_spec.specs.Truth.{Assignment, IsModel, clause_value, literal_value, variable_value}
-use Rattle.craig_spec.specs.Occurs.{occurs, occurs_in_clause}
+use Rattle.craig_spec.specs.Occurs.{occurs_in_clause}
 use Rattle.craig_spec.proofs.ClauseLemmas.{clause_value-find, clause_value-member, occurs_in_clause-find, occurs_in_clause-member}
 use Rattle.craig_spec.proofs.MemberLemmas.{Contains-cases, Contains-front, Contains-later, list_all-member, list_any-find, list_any-member, slice_get-below, slice_get-to_map}
 use Rattle.craig_top.specs.ListedLiterals.{EachHasOne, HasVariable, ListsEachVariable, MakesTrue, SomeHasVariable, VariablesRise}

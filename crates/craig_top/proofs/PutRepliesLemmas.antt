@@ -1,6 +1,5 @@
 -- The replies that a transcript is made of, and what a run has taken and put.
 use Rattle.std.proofs.Common.{◌≡◌, ◌∙◌, sym, ap, subst, refl, ◌⊎◌, inl, inr, ℕ, zero, suc, ◌+◌, ◌<◌, ◌≤◌, List, [], ◌∷◌, ◌++◌, length, take, map, Option, Some, slice_get, arith, length-append}
-use Rattle.std.specs.List.{concat}
 use Rattle.std.proofs.Math.Seq.{take-append_seam}
 use Rattle.std.proofs.lemmas.List.{append-nil}
 use Rattle.craig_script.specs.declared.line.Line.{Line}

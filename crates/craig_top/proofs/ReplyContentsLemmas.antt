@@ -1,22 +1,18 @@
 -- What a refuting reply has, what the reply to a line is, and what the line does to the given state.
-use Rattle.std.proofs.Common.{◌≡◌, ◌∙◌, sym, ap, subst, refl, ◌⊎◌, inl, inr, ℕ, zero, suc, ◌+◌, ◌<◌, true, List, [], ◌∷◌, ◌++◌, length, map, get_or, codes, decimal, Contains, Option, Some, slice_get, Result, Ok, Err, ℤ, arith}
+use Rattle.std.proofs.Common.{◌≡◌, ◌∙◌, sym, ap, subst, refl, ◌⊎◌, inl, inr, ℕ, zero, suc, ◌+◌, ◌<◌, List, [], length, map, codes, decimal, Some, slice_get, Result, Ok, Err, ℤ, arith}
 use Rattle.std.specs.List.{range_with_len}
-use Rattle.std.proofs.lemmas.List.{append_assoc, length-map}
-use Rattle.craig_spec.specs.Circuit.{Circuit, IsCircuit, IsStrict, Output}
-use Rattle.craig_spec.specs.Cut.{PartLiteral}
-use Rattle.craig_spec.specs.Literal.{Literal}
-use Rattle.craig_spec.specs.PartialInterpolant.{AB}
+use Rattle.std.proofs.lemmas.List.{length-map}
+use Rattle.craig_spec.specs.Circuit.{Circuit, Output}
 use Rattle.craig_spec.proofs.MemberLemmas.{slice_get-below, slice_get-to_map}
 use Rattle.craig_script.specs.declared.command.Command.{Command}
 use Rattle.craig_script.specs.declared.command.Command.TheVariants.{Nothing, Add, Solve}
 use Rattle.craig_script.specs.declared.line.Line.{Line}
 use Rattle.craig_script.specs.declared.refusal.Refusal.{Refusal}
-use Rattle.craig_top.specs.CircuitShape.{AllAreUsed, GatesAreConjunctions, GatesStandOnce, NumbersRise, OperandsAreOrdered, OutputsAreLiterals}
 use Rattle.craig_top.specs.GivenState.{State, next, obeyed_if_admitted, reading}
-use Rattle.craig_top.specs.RefutationReply.{IsCircuitText, IsRefutationReply, cut_names, output_literals}
+use Rattle.craig_top.specs.RefutationReply.{IsCircuitText, IsRefutationReply, cut_names}
 use Rattle.craig_top.specs.Reply.{Reply, RepliesToReading, assumptions_of}
 use Rattle.craig_top.specs.ReplyContents.{HaveTheNames, HasAccepted, IsTextOf, IsStrictText, PrintsModel}
-use Rattle.craig_top.specs.ReplyTexts.{literals_text, ok_text, refusal_text}
+use Rattle.craig_top.specs.ReplyTexts.{refusal_text}
 use Rattle.craig_top.specs.TrueParts.{AreNamedByCuts}
 use Rattle.craig_top.proofs.TruePartsLemmas.{some_same}
 use Rattle.craig_top.proofs.CircuitShapeLemmas.{all_are_used, gates_are_conjunctions, gates_stand_once, inputs_rise, operands_are_ordered, outputs_are_literals}

@@ -1,13 +1,12 @@
 -- The lines of a script, joined again.
-use Rattle.std.proofs.Common.{◌≡◌, ◌≢◌, ◌∙◌, sym, ap, subst, refl, ◌⊎◌, inl, inr, ℕ, zero, suc, ◌<◌, ◌≤◌, Bool, true, false, ◌||◌, ◌==◌, nat_le, cond, List, [], ◌∷◌, ◌++◌, length, map, Contains, codes, arith, le-leb}
-use Rattle.std.specs.List.{flat_map, list_any}
-use Rattle.std.proofs.lemmas.Bool.{eqb-true, eq-eqb}
+use Rattle.std.proofs.Common.{◌≡◌, ◌≢◌, ◌∙◌, sym, ap, refl, inl, inr, ℕ, suc, ◌<◌, ◌≤◌, Bool, true, false, ◌||◌, nat_le, cond, List, [], ◌∷◌, ◌++◌, length, map, Contains, codes, arith, le-leb}
+use Rattle.std.specs.List.{flat_map}
+use Rattle.std.proofs.lemmas.Bool.{eqb-true}
 use Rattle.std.proofs.lemmas.Bool.Decides.{nat_tests}
-use Rattle.std.proofs.lemmas.List.{append-nil, append_assoc}
-use Rattle.craig_script.specs.declared.line.Line.{Line}
+use Rattle.std.proofs.lemmas.List.{append-nil}
 use Rattle.craig_script.specs.declared.line.Line.TheVariants.{Overlong, Text}
 use Rattle.craig_script.specs.Lines.{has_newline, is_newline, last_part, line_of, onto_first, script_lines, unless_empty, whole_lines}
-use Rattle.craig_script.proofs.LinesLemmas.{has_newline-last_part, last_part-none, whole_lines-none}
+use Rattle.craig_script.proofs.LinesLemmas.{has_newline-last_part, whole_lines-none}
 use Rattle.craig_spec.proofs.MemberLemmas.{Contains-cases, list_any-member}
 
 -- the lines, each with its newline

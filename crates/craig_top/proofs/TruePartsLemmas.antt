@@ -1,19 +1,17 @@
 -- What sequences of interpolants and failed assumptions say of parts.
-use Rattle.std.proofs.Common.{◌≡◌, ◌≢◌, ◌∙◌, sym, ap, subst, refl, ◌⊎◌, inl, inr, ℕ, zero, suc, ◌+◌, ◌<◌, ◌≤◌, Bool, true, false, not, ◌&&◌, cond, List, [], ◌∷◌, ◌++◌, length, map, filter, get_or, Contains, Some, slice_get, arith, nat_eq, nat_le, nat_lt, leb-true, le-leb, ltb-true, lt-ltb, eqb-true, eq-eqb, IsTrue}
-use Rattle.std.specs.List.{list_all}
+use Rattle.std.proofs.Common.{◌≡◌, ◌∙◌, sym, ap, subst, refl, inl, inr, ℕ, ◌+◌, ◌<◌, ◌≤◌, Bool, true, false, not, ◌&&◌, cond, List, [], ◌∷◌, map, filter, get_or, Contains, Some, slice_get, arith, nat_eq, nat_le, nat_lt, leb-true, ltb-true, eqb-true, IsTrue}
 use Rattle.std.proofs.lemmas.Bool.{and_from, and_parts, cases_order}
-use Rattle.std.proofs.lemmas.List.Elements.{Contains-append_cases, Contains-append_left, Contains-append_right}
-use Rattle.std.proofs.lemmas.List.Kept.{AllPairs-from_increasing}
+use Rattle.std.proofs.lemmas.List.Elements.{Contains-append_cases}
 use Rattle.std.proofs.lemmas.Option.{get_or_from_slice_get, slice_get-get_or}
-use Rattle.craig_spec.specs.Circuit.{Circuit, circuit_cone, circuit_value}
-use Rattle.craig_spec.specs.Cut.{PartClause, PartLiteral, clauses_within, part_clauses, side_a, side_b, with_units}
+use Rattle.craig_spec.specs.Circuit.{Circuit, circuit_value}
+use Rattle.craig_spec.specs.Cut.{PartClause, PartLiteral, clauses_within, with_units}
 use Rattle.craig_spec.specs.FailedAssumptions.{NamesFailed}
-use Rattle.craig_spec.specs.Literal.{Literal, Clause}
+use Rattle.craig_spec.specs.Literal.{Literal}
 use Rattle.craig_spec.specs.Occurs.{occurs, occurs_in_clause}
 use Rattle.craig_spec.specs.Sequence.{IsSequence}
-use Rattle.craig_spec.specs.Truth.{Assignment, IsModel, clause_value, literal_value}
+use Rattle.craig_spec.specs.Truth.{Assignment, IsModel, clause_value}
 use Rattle.craig_spec.proofs.ClauseLemmas.{clause_value-member, occurs_in_clause-find}
-use Rattle.craig_spec.proofs.MemberLemmas.{Contains-from_image, Contains-from_slice_get, Contains-one, Contains-front, Contains-later, list_any-find, slice_get-below, slice_get-from_map, slice_get-to_map, slice_get-within}
+use Rattle.craig_spec.proofs.MemberLemmas.{Contains-from_image, Contains-from_slice_get, Contains-one, Contains-front, Contains-later, list_any-find, slice_get-below, slice_get-from_map, slice_get-to_map}
 use Rattle.craig_top.proofs.SidesLemmas.{occurs-within}
 use Rattle.craig_top.specs.TrueParts.{AreFirstOnes, AreImplied, AreOfAllCuts, AreRefuted, AreTrueWith, ClausesAreTrue, ClausesHave, FirstPlacesRise, HaveWith, ImplyTheNext, IsFirstAt, ReachSharedVariables}
 

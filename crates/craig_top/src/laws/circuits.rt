@@ -1,13 +1,9 @@
 //! What circuits and their texts are.
 
-ghost use Rattle.std.specs.Prelude.{◌≡◌, ℕ, ◌+◌, ◌*◌, List, Some, map, not, false};
-ghost use Rattle.craig_spec.specs.AigerReading.{read_aag};
+ghost use Rattle.std.specs.Prelude.{◌≡◌, ℕ, ◌+◌, ◌*◌, not, false};
 ghost use Rattle.craig_spec.specs.Circuit.{Circuit, IsCircuit, IsStrict, circuit_value};
 ghost use Rattle.craig_spec.specs.Truth.{Assignment};
-ghost use Rattle.craig_aiger.specs.AsciiText.{aag_text};
-ghost use Rattle.craig_aiger.specs.Layouts.{Layout, circuit_of};
-ghost use Rattle.craig_top.specs.CircuitShape.{AllAreUsed, GatesAreConjunctions, GatesReachByOperands, GatesStandOnce, InputsAreInCones, InputsAreVariables, NumbersRise, OperandsAreOrdered, OutputsAreLiterals};
-ghost use Rattle.craig_top.specs.RefutationReply.{IsCircuitText};
+ghost use Rattle.craig_top.specs.CircuitShape.{AllAreUsed, GatesAreConjunctions, GatesReachByOperands, GatesStandOnce, InputsAreVariables, NumbersRise, OperandsAreOrdered, OutputsAreLiterals};
 
 /// The literals of a circuit: 0 is false, and an odd one is the negation of the even one before it. An input has the
 /// value of its variable, and a gate is true where both of its operands are. An output is one of these literals.

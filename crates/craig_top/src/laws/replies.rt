@@ -1,6 +1,6 @@
 //! What replies say, what their bytes are, and what a line does to the given state.
 
-ghost use Rattle.std.specs.Prelude.{◌≡◌, ◌⊎◌, ℕ, [], ◌∷◌, ◌++◌, List, Ok, Err, ℤ, Contains, true, false, codes, decimal, length, map, pos, neg_ℤ};
+ghost use Rattle.std.specs.Prelude.{◌≡◌, ◌⊎◌, ℕ, [], ◌∷◌, ◌++◌, List, Ok, Err, ℤ, true, codes, decimal, length, map, pos};
 ghost use Rattle.craig_spec.specs.Circuit.{Circuit};
 ghost use Rattle.craig_spec.specs.Cut.{PartLiteral, with_units};
 ghost use Rattle.craig_spec.specs.DrawnFromOneRefutation.{IsRefutationOf};

@@ -1,6 +1,6 @@
 //! What a run has taken and put, by its status.
 
-ghost use Rattle.std.specs.Prelude.{◌≡◌, ◌≢◌, ℕ, ◌<◌, ◌≤◌, List, [], length, map, Option, Some};
+ghost use Rattle.std.specs.Prelude.{◌≡◌, ℕ, ◌<◌, ◌≤◌, List, [], length, map, Option, Some};
 ghost use Rattle.craig_io.specs.Faults.{Rose};
 ghost use Rattle.craig_script.specs.declared.line.Line.{Line};
 ghost use Rattle.craig_script.specs.Lines.{line_of, script_lines, whole_lines};

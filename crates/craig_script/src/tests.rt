@@ -1,26 +1,8 @@
 //! Streams, lines and commands, each with what is to be read.
 
-ghost use Rattle.std.specs.Prelude.{◌<◌};
-
 use super::*;
 use std::alloc::{AllocError, Global};
 use std::test::*;
-
-/// The lines of a stream that comes in pieces of this size.
-fn lines_of(alloc: Global, stream: &[u8], size: usize) -> Result<Vec<Line>, AllocError>
-    requires { 0 < size }
-{
-    let mut found = Vec::new(alloc);
-    let mut lines = Lines::new(alloc);
-    for piece in stream.chunks(size) {
-        lines.feed(piece)?;
-    }
-    lines.finish()?;
-    'given: while let Some(line) = lines.next() {
-        found.push(line)?;
-    }
-    Ok(found)
-}
 
 /// A line of these bytes.
 fn text(alloc: Global, bytes: &[u8]) -> Result<Line, AllocError> {
@@ -38,17 +20,6 @@ fn read(alloc: Global, parts: u16, bytes: &[u8]) -> Result<Command, LineFault> {
     admit(parts, false, &command).map_err(LineFault::Refused)?;
     Ok(command)
 }
-
-const STREAM: &[u8] = b"one\r\n\n # two\n\0\xff\n  add   1 5 0\t\r\nlast";
-
-const LINES: [&[u8]; 6] = [
-    b"one\r",
-    b"",
-    b" # two",
-    b"\0\xff",
-    b"  add   1 5 0\t\r",
-    b"last",
-];
 
 #[test]
 fn a_command_that_comes_in_two_pieces_is_one_line(rt: HostRuntime) -> Result<(), Fail> {
@@ -70,54 +41,6 @@ fn a_command_that_comes_in_two_pieces_is_one_line(rt: HostRuntime) -> Result<(),
         panic!(rt; "no solve");
     };
     assert!(rt; pairs.as_slice().is_empty());
-    Ok(())
-}
-
-#[test]
-fn pieces_of_any_size_give_the_same_lines(rt: HostRuntime) -> Result<(), Fail> {
-    for size in [1, 7, 65536] {
-        let found = lines_of(rt.alloc(), STREAM, size)?;
-        assert_eq!(rt; found.len(), LINES.len(), "in pieces of {size}");
-        for (line, want) in found.iter().zip(LINES) {
-            let same = match line {
-                Line::Text(bytes) => bytes.as_slice() == want,
-                Line::Overlong => false,
-            };
-            assert!(rt; same, "in pieces of {size}");
-        }
-    }
-    Ok(())
-}
-
-/// Whether a comment of so many bytes is overlong, where it comes in pieces of this size.
-fn is_overlong(alloc: Global, len: usize, size: usize) -> Result<bool, AllocError>
-    requires { 0 < size }
-{
-    let stream = vec![in alloc; b'#'; len]?;
-    let found = lines_of(alloc, &stream, size)?;
-    Ok(found.len() == 1 && found.iter().all(|line| matches!(line, Line::Overlong)))
-}
-
-#[test]
-fn a_line_may_have_1048576_bytes_and_no_more(rt: HostRuntime) -> Result<(), Fail> {
-    for size in [4096, 1048576, 2097152] {
-        assert!(rt; !is_overlong(rt.alloc(), 1048576, size)?);
-        assert!(rt; is_overlong(rt.alloc(), 1048577, size)?);
-    }
-    Ok(())
-}
-
-#[test]
-fn an_empty_last_line_is_none(rt: HostRuntime) -> Result<(), Fail> {
-    for (stream, want) in [
-        (b"".as_slice(), 0),
-        (b"\n", 1),
-        (b"a", 1),
-        (b"a\n", 1),
-        (b"a\nb", 2),
-    ] {
-        assert_eq!(rt; lines_of(rt.alloc(), stream, 4)?.len(), want);
-    }
     Ok(())
 }
 
@@ -198,34 +121,6 @@ fn the_first_refusal_is_given(rt: HostRuntime) {
         (b"\xff\xfe", Refusal::Syntax),
     ] {
         assert_eq!(rt; refusal_of(rt.alloc(), line), Some(want), "{line:?}");
-    }
-}
-
-#[test]
-fn pairs_are_tested_parts_first(rt: HostRuntime) -> Result<(), Fail> {
-    for (first, second, want) in [
-        ((1, 1), (2, -2147483647), Ok(())),
-        ((1, 2147483648), (3, 1), Err(Refusal::Range)),
-        ((1, 1), (2, 2147483648), Err(Refusal::Variable)),
-    ] {
-        let mut pairs = Pairs::new(rt.alloc());
-        pairs.push(first)?;
-        pairs.push(second)?;
-        assert_eq!(rt; admit(2, true, &Command::Solve(pairs)), want);
-    }
-    Ok(())
-}
-
-#[test]
-fn refusals_have_the_numbers_of_the_replies(rt: HostRuntime) {
-    let refusals = [
-        Refusal::Syntax,
-        Refusal::Overlong,
-        Refusal::Range,
-        Refusal::Variable,
-    ];
-    for (refusal, number) in refusals.into_iter().zip([1, 2, 3, 4]) {
-        assert_eq!(rt; refusal.number(), number);
     }
 }
 

@@ -1,11 +1,11 @@
 -- The depths of gates: one more than those of their operands, which circles have none of.
 use Rattle.std.proofs.Common.{◌≡◌, ℕ, zero, suc, ◌+◌, ◌-◌, ◌/◌, ◌<◌, ◌≤◌, Bool, true, false, cond, max, ltb, List, [], ◌∷◌, length, get_or, slice_get, Option, Some, None, ◌⊎◌, inl, inr, refl, sym, ◌∙◌, ap, arith}
 use Rattle.std.proofs.lemmas.Bool.Decides.{nat_tests}
-use Rattle.std.proofs.lemmas.Option.{same_Some, slice_get-get_or}
+use Rattle.std.proofs.lemmas.Option.{same_Some}
 use Rattle.std.specs.Option.{option_map}
 use Rattle.std.specs.Prelude.{find, is_none}
 use Rattle.std.specs.List.{enumerate_from}
-use Rattle.craig_spec.specs.AigerReading.{GateLine, deeper, depth, depth_by, first_cyclic, gate_at, gate_depth}
+use Rattle.craig_spec.specs.AigerReading.{GateLine, deeper, depth, depth_by, gate_at, gate_depth}
 use Rattle.craig_spec.specs.Circuit.{Gate}
 
 -- where there is a greater depth there are both

@@ -1,7 +1,7 @@
 -- The file that a text writes: no gate stands before one that it uses, and whatever is used is there.
-use Rattle.std.proofs.Common.{◌≡◌, ℕ, zero, suc, ◌+◌, ◌*◌, ◌/◌, ◌%◌, ◌<◌, Bool, true, false, not, ◌||◌, cond, eqb, List, [], ◌∷◌, ◌++◌, length, map, All, Option, Some, None, Result, Ok, Err, slice_get, refl, sym, ap, ◌∙◌, subst, length-append, arith}
+use Rattle.std.proofs.Common.{◌≡◌, ℕ, zero, suc, ◌+◌, ◌/◌, ◌<◌, Bool, true, false, not, ◌||◌, cond, List, [], ◌∷◌, ◌++◌, length, map, All, Option, Some, None, Result, Ok, Err, slice_get, refl, sym, ap, ◌∙◌, subst, length-append, arith}
 use Rattle.std.specs.Option.{option_map}
-use Rattle.std.specs.List.{enumerate_from, find, list_any, range_with_len}
+use Rattle.std.specs.List.{enumerate_from, find, list_any}
 use Rattle.std.proofs.lemmas.Bool.{or_parts}
 use Rattle.std.proofs.lemmas.List.{length-map}
 use Rattle.std.proofs.lemmas.List.Elements.{All-cons, All-nil}
@@ -9,7 +9,7 @@ use Rattle.std.proofs.lemmas.List.Folds.{list_any-append}
 use Rattle.std.proofs.lemmas.List.FromFn.{length-map-range_with_len}
 use Rattle.craig_spec.specs.Circuit.{Gate}
 use Rattle.craig_spec.specs.AigerFault.{Fault, FaultKind}
-use Rattle.craig_spec.specs.AigerReading.{AigerFile, Counts, FileLatch, FileRoot, GateLine, IsDefinedFile, LatchLine, RootLine, Symbol, TextLine, Use, Written, by_depth, aiger_reading, fault, file_by, file_variables, file_written, first_cyclic, first_gate, first_undefined, gate_use, header_in, is_new, latch_use, leaves_of, lines_of, moved, moved_gates, name_of, named_latches, named_roots, numbered, numbered_gates, place_in, read_from, root_use, unless_found, uses_of, uses_other, variables_of, written_in, ◌>>=◌}
+use Rattle.craig_spec.specs.AigerReading.{AigerFile, Counts, FileLatch, FileRoot, GateLine, IsDefinedFile, LatchLine, RootLine, Symbol, TextLine, Use, Written, by_depth, aiger_reading, file_by, file_variables, file_written, first_cyclic, first_gate, first_undefined, gate_use, header_in, is_new, latch_use, leaves_of, lines_of, moved, moved_gates, name_of, named_latches, named_roots, numbered, numbered_gates, read_from, root_use, unless_found, uses_of, uses_other, variables_of, written_in, ◌>>=◌}
 use Rattle.craig_spec.proofs.AigerDepthLemmas.{HaveDepths, HaveDepths-found, is_deepless}
 use Rattle.craig_spec.proofs.AigerOrderLemmas.{has, in_first}
 use Rattle.craig_spec.proofs.AigerMovedLemmas.{AreInside, InOrder-moved, IsOrder, IsOrder-by_depth, moved_within}

@@ -1,14 +1,14 @@
 -- The order of gates by depth, in which each stands after its operands.
-use Rattle.std.proofs.Common.{◌≡◌, ℕ, zero, suc, ◌+◌, ◌-◌, ◌<◌, ◌≤◌, ◌/◌, ◌%◌, Bool, true, false, nat_lt, eqb, List, length, get_or, Option, Some, None, slice_get, refl, sym, ap, ◌∙◌, inl, inr, arith}
+use Rattle.std.proofs.Common.{◌≡◌, ℕ, ◌+◌, ◌-◌, ◌<◌, ◌≤◌, ◌/◌, ◌%◌, Bool, true, false, nat_lt, eqb, List, length, get_or, Option, Some, None, slice_get, refl, sym, ap, ◌∙◌, inl, inr, arith}
 use Rattle.std.specs.Bool.{if◌then◌else◌}
 use Rattle.std.proofs.Math.ListN.{get_or-map}
 use Rattle.std.proofs.lemmas.Bool.Decides.{nat_tests}
 use Rattle.std.proofs.lemmas.List.{length-map}
 use Rattle.std.proofs.lemmas.Option.{same_Some, slice_get_within, slice_get-get_or, get_or_from_slice_get}
 use Rattle.craig_spec.specs.Circuit.{Gate}
-use Rattle.craig_spec.specs.AigerReading.{by_depth, depth, gate_depth, is_depth, moved, moved_gate, moved_gates, place_in}
+use Rattle.craig_spec.specs.AigerReading.{by_depth, gate_depth, is_depth, moved, moved_gate, moved_gates, place_in}
 use Rattle.craig_spec.proofs.AigerDepthLemmas.{HaveDepths, InOrder, Operand, depth-le, gate-deep, operand-depth}
-use Rattle.craig_spec.proofs.AigerOrderLemmas.{at_place, first_place, ordered_before, ordered_below, ordered_within}
+use Rattle.craig_spec.proofs.AigerOrderLemmas.{first_place, ordered_before, ordered_below, ordered_within}
 
 -- a variable at its new place
 abbrev pub moved_variable : ℕ → List ℕ → ℕ → ℕ

@@ -24,4 +24,4 @@ cone_of_both first second third one two (Ok edge) left right n one_is kept withi
 
 pub returns-clause-inputs : goal.returns-clause-inputs
 returns-clause-inputs c =
-    cone_of_both c.input.new.self c.input-2.new.self c.and.new.self c.in_ok-one.one c.in_ok-two.two c.and.result c.args.left.0 c.args.right.0 _ c.in_ok-one.ensures.cone c.in_ok-two.ensures.kept c.in_ok-one.ensures.within c.in_ok-two.ensures.extends c.in_ok-two.ensures.cone c.and.ensures.cone c.requires.left c.requires.right
+    cone_of_both c.input.new.self c.input-2.new.self c.and.new.self c.in_ok-one.one c.in_ok-two.two c.and.result c.args.left.0 c.args.right.0 _ c.in_ok-one.ensures.cone c.in_ok-two.ensures.grows.kept c.in_ok-one.ensures.within c.in_ok-two.ensures.grows.extends c.in_ok-two.ensures.cone c.and.ensures.cone c.requires.left c.requires.right

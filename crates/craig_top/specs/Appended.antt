@@ -7,3 +7,7 @@ pub record AppendsOnly (old new : List ℕ) : Type 0 where
   pub text : List ℕ
   -- they stand behind those that were there
   pub behind : new ≡ old ++ text
+
+-- a text with the property came behind what was there
+abbrev pub AppendsText : (old new : List ℕ) → (List ℕ → Type 0) → Type 0
+AppendsText old new P = (text : List ℕ) × P text × (new ≡ old ++ text)

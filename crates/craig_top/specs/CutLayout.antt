@@ -16,8 +16,13 @@ cut_outputs_from cut (e ∷ edges) = (record { family = None; cut = cut }, e) �
 
 -- the outputs of the layout are the interpolants of the cuts by Pudlák's system, from cut 0 on
 pub record IsCutLayout (names : List ℕ) (sides : SidesView) (steps : List ToldStep) (root : ℕ) (layout : Layout) : Type 0 where
+  -- the arena
   pub nodes : List Node
+  -- the edge of each cut
   pub edges : List Edge
+  -- the edges are interpolants by Pudlák's system
   pub interpolants : AreInterpolants sides (λ x. AB) steps root nodes edges
+  -- the layout has the inputs, gates and outputs of the edges
   pub laid_out : IsLayout nodes names (cut_outputs_from 0 edges) layout
+  -- each output has the function of its edge
   pub functions : HasFunctions nodes names (cut_outputs_from 0 edges) layout

@@ -9,9 +9,11 @@ use Rattle.craig_script.specs.declared.refusal.Refusal.{Refusal}
 use Rattle.craig_script.specs.Reading.{read_line}
 use Rattle.craig_top.specs.declared.settings.Settings.{Settings}
 
--- the number of parts, and the accepted clauses as they were written, over script variables, first to last
+-- the given state
 pub record State : Type 0 where
+  -- the number of parts
   pub parts : ℕ
+  -- the accepted clauses as they were written, over script variables, first to last
   pub accepted : List PartClause
 
 -- before the first line: two parts and no clause

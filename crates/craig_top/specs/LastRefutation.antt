@@ -11,19 +11,28 @@ use Rattle.craig_top.specs.Named.{named_step}
 use Rattle.craig_top.specs.RefutationReply.{IsRefutationReply}
 use Rattle.craig_top.specs.Reply.{GivesModel, assumptions_of}
 
--- what a session is seen as: the given state, the names of the dense variables, the steps that are kept, over these variables, the root of the last answer, if that was a refutation, and whether a line wanted memory in vain
+-- what a session is seen as
 pub record SessionView : Type 0 where
+  -- what the accepted lines have said so far
   pub state : State
+  -- the names of the dense variables, by their numbers
   pub names : List ℕ
+  -- the steps that are kept, over dense variables
   pub steps : List ToldStep
+  -- the root of the last answer, if that was a refutation
   pub root : Option ℕ
+  -- whether a line wanted memory in vain
   pub dead : Bool
 
 -- the root is the last one, and the steps are those that it needs, with the variables of the script
 pub record IsOfLastRoot (names : List ℕ) (kept : List ToldStep) (last : Option ℕ) (steps : List ToldStep) (root : ℕ) : Type 0 where
+  -- no answer came after it
   pub is_last : last ≡ Some root
+  -- the steps that it needs, over dense variables
   pub part : List ToldStep
+  -- they are those of all that are kept
   pub needed : IsNeededPart kept root part
+  -- they are told of the script's variables
   pub named : steps ≡ map (named_step names) part
 
 -- the reply refutes, and its interpolants are drawn from the steps that the last root needs

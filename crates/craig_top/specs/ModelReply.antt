@@ -12,6 +12,9 @@ positives literals = map (λ l. l.var) (filter (λ l. not l.negated) literals)
 
 -- one literal for each variable of the clauses, by rising variable, and together they make every clause true
 pub record IsModelReply (clauses : List Clause) (literals : List Literal) : Type 0 where
+  -- the variables of the literals are those of the clauses
   pub named : (x : ℕ) → occurs_in_clause x literals ≡ occurs x clauses
+  -- each variable is greater than the one before
   pub rising : IsStrictlyIncreasing (map (λ l. l.var) literals)
+  -- what the literals say makes every clause true
   pub satisfies : IsModel (positives literals) clauses

@@ -12,9 +12,13 @@ use Rattle.craig_top.specs.Puts.{Puts}
 
 -- these bytes were taken of the source, the lines whose newline is among them are answered, and what comes after waits
 pub record Progress (settings : Settings) (left_before held_before left_now held_now : Option (List ℕ)) (session : State) (lines : cut.LinesView) (taken : List ℕ) : Type 0 where
+  -- what came after the last newline waits
   pub lines_are : lines ≡ emptied (cut.fed cut.before_first_byte taken)
+  -- the session has answered the whole lines
   pub session_is : session ≡ after (start settings) (whole taken)
+  -- the bytes taken are gone of the source
   pub told : (all : List ℕ) → left_before ≡ Some all → (rest : List ℕ) × (all ≡ taken ++ rest) × (left_now ≡ Some rest)
+  -- the replies to the whole lines are put
   pub put : Puts held_before held_now (Transcript (start settings) (whole taken))
 
 -- the status says that a fault or want of memory ended the run

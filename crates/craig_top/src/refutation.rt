@@ -10,7 +10,7 @@ ghost use Rattle.craig_label.specs.declared.side.Side.{Side};
 ghost use Rattle.craig_aiger.specs.Layouts.{circuit_of};
 ghost use Rattle.craig_itp.specs.Interpolants.{NeededAreNoted};
 ghost use Rattle.craig_solver.specs.Told.{IsToldOf};
-ghost use Rattle.craig_top.specs.Appended.{AppendsOnly};
+ghost use Rattle.craig_top.specs.Appended.{AppendsOnly, AppendsText};
 ghost use Rattle.craig_top.specs.CutLayout.{IsCutLayout, cut_outputs_from};
 ghost use Rattle.craig_top.specs.LastRefutation.{IsRefutationBy};
 ghost use Rattle.craig_top.specs.Sides.{AreSidesOf, parted};
@@ -43,8 +43,7 @@ pub fn append_refutation(
     requires told { IsToldOf clauses.now store.now.told }
     requires root { IsUnforgotten store.now.told.steps root.0 }
     requires empty { clause_told store.now.told.steps root.0 ≡ Some [] }
-    ensures reply { OnOk result ((text : List ℕ) × IsRefutationBy names.now store.now.told.steps (Some root.0) (stored_state sides.now.parts names.now clauses.now) [] text
-        × (out.new.items ≡ out.old.items ++ text)) }
+    ensures reply { OnOk result (AppendsText out.old.items out.new.items (IsRefutationBy names.now store.now.told.steps (Some root.0) (stored_state sides.now.parts names.now clauses.now) [])) }
     ensures appends { AppendsOnly out.old.items out.new.items }
 {
     craig_aig::laws::bits_are_an_assignment();

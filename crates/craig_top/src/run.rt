@@ -72,8 +72,11 @@ impl Stop {
 /// The lines of a script as they come, and the session that answers them.
 #[derive(Drop)]
 struct Run {
+    /// What answers.
     session: Session,
+    /// What came of the script and is not answered yet.
     lines: Lines,
+    /// The reply to the last line.
     reply: Vec<u8>,
 }
 

@@ -1,7 +1,7 @@
 //! A session: one reply for each line, and the state that the lines so far have left.
 
 ghost use Rattle.std.specs.Prelude.{◌≡◌, ℕ, [], ◌++◌, true, false, List, None, OnOk, OnErr, IsErr};
-ghost use Rattle.craig_top.specs.Appended.{AppendsOnly};
+ghost use Rattle.craig_top.specs.Appended.{AppendsOnly, AppendsText};
 
 use crate::settings::Settings;
 use crate::stored::Stored;
@@ -60,8 +60,8 @@ impl Session {
     /// stand behind what was in `out`, and the session is dead: each later line is refused in the same way, and changes
     /// nothing.
     pub fn answer(&mut self, line: &Line, out: &mut Vec<u8>) -> Result<(), AllocError>
-        ensures reply { OnOk result ((reply : List ℕ) × Reply self.old.state line.now reply × (out.new.items ≡ out.old.items ++ reply)) }
-        ensures refutation { OnOk result ((reply : List ℕ) × ReadingIsByLastRoot self.new self.old.state (reading self.old.state line.now) reply × (out.new.items ≡ out.old.items ++ reply)) }
+        ensures reply { OnOk result (AppendsText out.old.items out.new.items (Reply self.old.state line.now)) }
+        ensures refutation { OnOk result (AppendsText out.old.items out.new.items (ReadingIsByLastRoot self.new self.old.state (reading self.old.state line.now))) }
         ensures state { OnOk result (self.new.state ≡ next self.old.state line.now) }
         ensures unchanged { OnErr result (self.new.state ≡ self.old.state) }
         ensures appends { AppendsOnly out.old.items out.new.items }

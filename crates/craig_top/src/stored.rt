@@ -5,7 +5,7 @@ ghost use Rattle.std.specs.List.{list_all};
 ghost use Rattle.std.specs.Int.RustNames.{unsigned_abs};
 ghost use Rattle.craig_script.specs.Reading.{IsReadAs, admitted, is_within, variable_limit};
 ghost use Rattle.craig_script.specs.declared.command.Command.{Command};
-ghost use Rattle.craig_top.specs.Appended.{AppendsOnly};
+ghost use Rattle.craig_top.specs.Appended.{AppendsOnly, AppendsText};
 ghost use Rattle.craig_top.specs.GivenState.{reading, next, obeyed};
 ghost use Rattle.craig_top.specs.LastRefutation.{IsByLastRoot, IsSolveReplyBy, ReadingIsByLastRoot};
 ghost use Rattle.craig_top.specs.Reply.{Reply, RepliesTo};
@@ -26,11 +26,13 @@ use std::alloc::{AllocError, Global};
 /// The names of the variables, the sides of the accepted clauses, and the solver that holds them.
 #[derive(Drop)]
 pub struct Stored {
+    /// Where memory comes from.
     alloc: Global,
+    /// The names of the dense variables.
     pub names: Names,
-    // over the dense variables of the names
+    /// The sides of the accepted clauses, over the dense variables, and the number of parts.
     pub sides: Sides,
-    // so is each clause of the solver
+    /// The accepted clauses over the dense variables, and the refutations that are kept.
     pub solver: Solver<ChainStore>,
 }
 
@@ -54,8 +56,8 @@ impl Stored {
     pub fn answer(&mut self, line: &Line, out: &mut Vec<u8>) -> Result<(), AllocError>
         requires { IsKept self.old }
         ensures kept { OnOk result (IsKept self.new) }
-        ensures reply { OnOk result ((reply : List ℕ) × Reply (given_state self.old) line.now reply × (out.new.items ≡ out.old.items ++ reply)) }
-        ensures refutation { OnOk result ((reply : List ℕ) × ReadingIsByLastRoot (seen self.new false) (given_state self.old) (reading (given_state self.old) line.now) reply × (out.new.items ≡ out.old.items ++ reply)) }
+        ensures reply { OnOk result (AppendsText out.old.items out.new.items (Reply (given_state self.old) line.now)) }
+        ensures refutation { OnOk result (AppendsText out.old.items out.new.items (ReadingIsByLastRoot (seen self.new false) (given_state self.old) (reading (given_state self.old) line.now))) }
         ensures state { OnOk result (given_state self.new ≡ next (given_state self.old) line.now) }
         ensures unchanged { OnErr result (given_state self.new ≡ given_state self.old) }
         ensures appends { AppendsOnly out.old.items out.new.items }
@@ -90,8 +92,8 @@ impl Stored {
         requires admitted { admitted self.old.sides.parts command ≡ Ok tt }
         requires unassuming { IsUnassuming command }
         ensures kept { OnOk result (IsKept self.new) }
-        ensures reply { OnOk result ((reply : List ℕ) × RepliesTo (given_state self.old) command reply × (out.new.items ≡ out.old.items ++ reply)) }
-        ensures refutation { OnOk result ((reply : List ℕ) × IsByLastRoot (seen self.new false) (given_state self.old) command reply × (out.new.items ≡ out.old.items ++ reply)) }
+        ensures reply { OnOk result (AppendsText out.old.items out.new.items (RepliesTo (given_state self.old) command)) }
+        ensures refutation { OnOk result (AppendsText out.old.items out.new.items (IsByLastRoot (seen self.new false) (given_state self.old) command)) }
         ensures state { OnOk result (given_state self.new ≡ obeyed (given_state self.old) command) }
         ensures unchanged { OnErr result (given_state self.new ≡ given_state self.old) }
         ensures appends { AppendsOnly out.old.items out.new.items }
@@ -132,7 +134,7 @@ impl Stored {
     fn solve(&mut self, out: &mut Vec<u8>) -> Result<(), AllocError>
         requires { IsKept self.old }
         ensures kept { OnOk result (IsKept self.new) }
-        ensures reply { OnOk result ((text : List ℕ) × IsSolveReplyBy self.new.names self.new.solver.tracer.told.steps self.new.solver.root (given_state self.old) [] text × (out.new.items ≡ out.old.items ++ text)) }
+        ensures reply { OnOk result (AppendsText out.old.items out.new.items (IsSolveReplyBy self.new.names self.new.solver.tracer.told.steps self.new.solver.root (given_state self.old) [])) }
         ensures state { given_state self.new ≡ given_state self.old }
         ensures appends { AppendsOnly out.old.items out.new.items }
     {

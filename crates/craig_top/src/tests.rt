@@ -1,26 +1,30 @@
 //! Rows of scripts with their replies, and runs whose reads and writes fail.
 
-use crate::{Session, Settings, Status, craig_top, run_script};
-use craig_io::{MemSink, MemSource, Source};
-use craig_script::{Bytes, Line};
+use crate::{Settings, Status, craig_top, run_script};
+use craig_io::{Failed, MemSink, MemSource, Source};
 use std::alloc::{AllocError, Global};
 use std::test::Fail;
 
 /// A script, and what has to be put for it.
 #[derive(Clone, Copy)]
 struct Row {
+    /// What the row shows.
     shows: &'static str,
+    /// The bytes of the script.
     script: &'static [u8],
+    /// All replies, one behind the other.
     replies: &'static [u8],
 }
 
+/// The first row, which other tests run too.
 const UNSATISFIABLE: Row = Row {
     shows: "two units that contradict each other",
     script: b"add 1 1 0\nadd 2 -1 0\nsolve 0\n",
     replies: b"ok\nok\ns UNSATISFIABLE\nf 0\na 42\naag 1 1 0 3 0\n2\n1\n2\n0\ni0 1\no0 0\no1 1\no2 2\n",
 };
 
-const ROWS: [Row; 13] = [
+/// Scripts that are read to their end.
+const ROWS: [Row; 14] = [
     UNSATISFIABLE,
     Row {
         shows: "a cut variable alone, where an expansion over local ones would keep the input 2",
@@ -41,6 +45,11 @@ const ROWS: [Row; 13] = [
         shows: "the empty clause",
         script: b"add 2 0\nsolve 0\n",
         replies: b"ok\ns UNSATISFIABLE\nf 0\na 35\naag 0 0 0 3 0\n1\n1\n0\no0 0\no1 1\no2 2\n",
+    },
+    Row {
+        shows: "the empty clause on the other side of the cut",
+        script: b"add 1 0\nsolve 0\n",
+        replies: b"ok\ns UNSATISFIABLE\nf 0\na 35\naag 0 0 0 3 0\n1\n0\n0\no0 0\no1 1\no2 2\n",
     },
     Row {
         shows: "a tautology names its variables, and the first phase is false",
@@ -88,47 +97,79 @@ const ROWS: [Row; 13] = [
 const PIGEONS: &[u8] =
     b"add 1 1 2 0\nadd 1 3 4 0\nadd 1 5 6 0\nadd 2 -1 -3 0\nadd 2 -1 -5 0\nadd 2 -3 -5 0\nadd 2 -2 -4 0\nadd 2 -2 -6 0\nadd 2 -4 -6 0\nsolve 0\n";
 
+/// How a script comes, and where its run stops.
+#[derive(Clone, Copy)]
+struct Way {
+    /// How many bytes a read gives and a write takes at most.
+    pieces: (usize, usize),
+    /// The number of the read that fails, or 0.
+    read_fails: u64,
+    /// The number of the write that fails, or 0.
+    write_fails: u64,
+    /// How many bytes the script has to be shorter than.
+    bound: u64,
+}
+
+/// All at once, and nothing fails.
+const AT_ONCE: Way = Way {
+    pieces: (65536, 65536),
+    read_fails: 0,
+    write_fails: 0,
+    bound: 4294967296,
+};
+
 /// How a run ended, and what it put.
 #[derive(Drop)]
 struct Ending {
+    /// The status of the run.
     status: Status,
+    /// What the sink holds.
     put: Vec<u8>,
+    /// The most bytes that a read asked for.
+    asked: usize,
+    /// How many reads there were.
+    reads: u64,
 }
 
-/// Runs a script that comes in such pieces, to a sink that takes such pieces; reads and writes fail at these calls.
-fn run(
-    alloc: Global,
-    script: &[u8],
-    pieces: (usize, usize),
-    read_fails: &[u64],
-    write_fails: &[u64],
-) -> Result<Ending, AllocError> {
-    let read_fails = Vec::from_slice(alloc, read_fails)?;
-    let write_fails = Vec::from_slice(alloc, write_fails)?;
-    let mut source = MemSource::new(Vec::from_slice(alloc, script)?, pieces.0.max(1), read_fails);
-    let mut sink = MemSink::new(alloc, 65536, pieces.1.max(1), write_fails)?;
-    let words = Vec::new(alloc);
-    let status = craig_top(alloc, &words, &mut source, &mut sink);
+/// A source that notes what it is asked for.
+#[derive(Drop)]
+struct Noting {
+    inner: MemSource,
+    asked: usize,
+    reads: u64,
+}
+
+impl Source for Noting {
+    ghost use Rattle.std.specs.Prelude.{Some};
+
+    ghost remaining = { λ s. Some s.inner.left };
+
+    ghost faults = { λ s. s.inner.calls.faults };
+
+    fn read(&mut self, into: &mut [u8]) -> Result<usize, Failed> {
+        self.asked = self.asked.max(into.len());
+        self.reads = self.reads.saturating_add(1);
+        self.inner.read(into)
+    }
+}
+
+/// Runs a script in a way.
+fn run(alloc: Global, script: &[u8], way: Way) -> Result<Ending, AllocError> {
+    let bytes = Vec::from_slice(alloc, script)?;
+    let mut source = Noting {
+        inner: MemSource::new(bytes, way.pieces.0.max(1), vec![in alloc; way.read_fails]?),
+        asked: 0,
+        reads: 0,
+    };
+    let fails = vec![in alloc; way.write_fails]?;
+    let mut sink = MemSink::new(alloc, 65536, way.pieces.1.max(1), fails)?;
+    let bound = way.bound.max(1);
+    let status = run_script(alloc, Settings::start(), bound, &mut source, &mut sink);
     Ok(Ending {
         status,
         put: Vec::from_slice(alloc, sink.bytes())?,
-    })
-}
-
-/// Runs a script with a bound on its bytes.
-fn run_bounded(alloc: Global, script: &[u8], bound: u64) -> Result<Ending, AllocError> {
-    let mut source = MemSource::new(Vec::from_slice(alloc, script)?, 65536, Vec::new(alloc));
-    let mut sink = MemSink::new(alloc, 65536, 65536, Vec::new(alloc))?;
-    let status = run_script(
-        alloc,
-        Settings::start(),
-        bound.max(1),
-        &mut source,
-        &mut sink,
-    );
-    Ok(Ending {
-        status,
-        put: Vec::from_slice(alloc, sink.bytes())?,
+        asked: source.asked,
+        reads: source.reads,
     })
 }
 
@@ -146,14 +187,8 @@ fn long_line(alloc: Global, first: u8, len: usize) -> Result<Vec<u8>, AllocError
 fn each_line_has_its_reply_in_any_pieces(rt: HostRuntime) -> Result<(), Fail> {
     for row in &ROWS {
         for pieces in [(1, 65536), (7, 65536), (65536, 65536), (65536, 1)] {
-            let ending = run(rt.alloc(), row.script, pieces, &[], &[])?;
-            assert_eq!(rt; ending.status, Status::Done, "{}", row.shows);
-            assert_eq!(rt;
-                ending.put.as_slice(),
-                row.replies,
-                "{} in {pieces:?}",
-                row.shows
-            );
+            let ending = run(rt.alloc(), row.script, Way { pieces, ..AT_ONCE })?;
+            assert_eq!(rt; ending.put.as_slice(), row.replies, "{}", row.shows);
         }
     }
     Ok(())
@@ -161,8 +196,7 @@ fn each_line_has_its_reply_in_any_pieces(rt: HostRuntime) -> Result<(), Fail> {
 
 #[test]
 fn pigeons_are_refuted_by_search(rt: HostRuntime) -> Result<(), Fail> {
-    let ending = run(rt.alloc(), PIGEONS, (65536, 65536), &[], &[])?;
-    assert_eq!(rt; ending.status, Status::Done);
+    let ending = run(rt.alloc(), PIGEONS, AT_ONCE)?;
     let begins = ending.put.as_slice().starts_with(
         b"ok\nok\nok\nok\nok\nok\nok\nok\nok\ns UNSATISFIABLE\nf 0\na ",
     );
@@ -180,122 +214,108 @@ fn a_line_is_overlong_from_1048577_bytes_on(rt: HostRuntime) -> Result<(), Fail>
     ];
     for (first, len, replies) in &rows {
         let script = long_line(rt.alloc(), *first, *len)?;
-        let ending = run(rt.alloc(), &script, (65536, 65536), &[], &[])?;
+        let ending = run(rt.alloc(), &script, AT_ONCE)?;
         assert_eq!(rt; ending.put.as_slice(), *replies, "{len} bytes from {first}");
     }
     Ok(())
 }
 
+// At a bound or a failure, and the reads that there were: each asks for at most 65536 bytes and for no more than are
+// left to the bound, and none comes before the replies to what was read are put.
 #[test]
-fn a_read_that_fails_leaves_whole_replies(rt: HostRuntime) -> Result<(), Fail> {
-    let ending = run(rt.alloc(), UNSATISFIABLE.script, (16, 65536), &[2], &[])?;
-    assert_eq!(rt; ending.status, Status::ReadFault);
-    assert_eq!(rt; ending.put.as_slice(), b"ok\n".as_slice());
-    Ok(())
-}
-
-#[test]
-fn a_write_that_fails_leaves_the_beginning_of_a_reply(rt: HostRuntime) -> Result<(), Fail> {
-    for (piece, call, put) in [
-        (65536, 3, b"ok\nok\n".as_slice()),
-        (1, 5, b"ok\no".as_slice()),
-        (4, 4, b"ok\nok\ns UN".as_slice()),
-    ] {
-        let ending = run(
-            rt.alloc(),
-            UNSATISFIABLE.script,
-            (65536, piece),
-            &[],
-            &[call],
-        )?;
-        assert_eq!(rt; ending.status, Status::WriteFault);
-        assert_eq!(rt; ending.put.as_slice(), put);
+fn a_run_stops_where_it_has_to(rt: HostRuntime) -> Result<(), Fail> {
+    let rows: [(Way, Status, &[u8], usize, u64); 8] = [
+        (AT_ONCE, Status::Done, UNSATISFIABLE.replies, 65536, 2),
+        (
+            way_of(65536, 65536, 0, 0, 10),
+            Status::TooLong,
+            b"ok\n",
+            10,
+            1,
+        ),
+        (
+            way_of(65536, 65536, 0, 0, 29),
+            Status::TooLong,
+            UNSATISFIABLE.replies,
+            29,
+            1,
+        ),
+        (
+            way_of(65536, 65536, 0, 0, 30),
+            Status::Done,
+            UNSATISFIABLE.replies,
+            30,
+            2,
+        ),
+        (
+            way_of(16, 65536, 2, 0, 4294967296),
+            Status::ReadFault,
+            b"ok\n",
+            65536,
+            2,
+        ),
+        (
+            way_of(10, 65536, 0, 1, 4294967296),
+            Status::WriteFault,
+            b"",
+            65536,
+            1,
+        ),
+        (
+            way_of(65536, 65536, 0, 3, 4294967296),
+            Status::WriteFault,
+            b"ok\nok\n",
+            65536,
+            1,
+        ),
+        (
+            way_of(65536, 4, 0, 4, 4294967296),
+            Status::WriteFault,
+            b"ok\nok\ns UN",
+            65536,
+            1,
+        ),
+    ];
+    for (way, status, put, asked, reads) in &rows {
+        let ending = run(rt.alloc(), UNSATISFIABLE.script, *way)?;
+        let same = ending.status == *status && ending.asked == *asked && ending.reads == *reads;
+        assert!(rt; same, "{asked} {reads}");
+        assert_eq!(rt; ending.put.as_slice(), *put, "{asked} {reads}");
     }
     Ok(())
 }
 
-#[test]
-fn a_reply_is_put_before_more_is_read(rt: HostRuntime) -> Result<(), Fail> {
-    let alloc = rt.alloc();
-    let bytes = Vec::from_slice(alloc, UNSATISFIABLE.script)?;
-    let mut source = MemSource::new(bytes, 10, Vec::new(alloc));
-    let mut sink = MemSink::new(alloc, 65536, 65536, vec![in alloc; 1]?)?;
-    let words = Vec::new(alloc);
-    assert_eq!(rt;
-        craig_top(alloc, &words, &mut source, &mut sink),
-        Status::WriteFault
-    );
-    let mut next = [0u8; 3];
-    assert_eq!(rt; source.read(&mut next), Ok(3));
-    assert_eq!(rt; next, *b"add");
-    Ok(())
-}
-
-#[test]
-fn a_run_ends_at_its_bound(rt: HostRuntime) -> Result<(), Fail> {
-    for (bound, status, put) in [
-        (10, Status::TooLong, b"ok\n".as_slice()),
-        (29, Status::TooLong, UNSATISFIABLE.replies),
-        (30, Status::Done, UNSATISFIABLE.replies),
-    ] {
-        let ending = run_bounded(rt.alloc(), UNSATISFIABLE.script, bound)?;
-        assert_eq!(rt; ending.status, status, "{bound}");
-        assert_eq!(rt; ending.put.as_slice(), put, "{bound}");
+/// A way by its numbers.
+fn way_of(given: usize, taken: usize, read_fails: u64, write_fails: u64, bound: u64) -> Way {
+    Way {
+        pieces: (given, taken),
+        read_fails,
+        write_fails,
+        bound,
     }
-    Ok(())
 }
 
 #[test]
-fn a_word_is_refused_and_nothing_is_read(rt: HostRuntime) -> Result<(), Fail> {
+fn words_are_refused(rt: HostRuntime) -> Result<(), Fail> {
     let alloc = rt.alloc();
-    for word in ["--wrong", "--", "--help", ""] {
+    let rows: [&[&str]; 5] = [
+        &["--wrong"],
+        &["--limit", "0"],
+        &["--gen", "61"],
+        &["--gen", "1", "--gen", "1"],
+        &["--"],
+    ];
+    for row in &rows {
         let mut words = Vec::new(alloc);
-        words.push(String::from_str(alloc, word)?)?;
+        for word in *row {
+            words.push(String::from_str(alloc, word)?)?;
+        }
         let bytes = Vec::from_slice(alloc, UNSATISFIABLE.script)?;
         let mut source = MemSource::new(bytes, 3, Vec::new(alloc));
         let mut sink = MemSink::new(alloc, 65536, 65536, Vec::new(alloc))?;
-        assert_eq!(rt;
-            craig_top(alloc, &words, &mut source, &mut sink),
-            Status::Usage,
-            "{word}"
-        );
-        assert_eq!(rt; sink.bytes().len(), 0, "{word}");
-        let mut next = [0u8; 3];
-        assert_eq!(rt; source.read(&mut next), Ok(3), "{word}");
-        assert_eq!(rt; next, *b"add", "{word}");
+        let status = craig_top(alloc, &words, &mut source, &mut sink);
+        let refused = status.number() == 1 && sink.bytes().is_empty();
+        assert!(rt; refused);
     }
     Ok(())
-}
-
-#[test]
-fn a_session_answers_line_by_line(rt: HostRuntime) -> Result<(), Fail> {
-    let alloc = rt.alloc();
-    let mut session = Session::new(alloc, Settings::start());
-    let mut out = Vec::new(alloc);
-    for text in [b"add 2 4 0".as_slice(), b"add 2 9 0", b"solve 0"] {
-        let mut bytes = Bytes::new(alloc);
-        bytes.extend_from_slice(text)?;
-        session.answer(&Line::Text(bytes), &mut out)?;
-    }
-    session.answer(&Line::Overlong, &mut out)?;
-    assert_eq!(rt;
-        out.as_slice(),
-        b"ok\nok\ns SATISFIABLE\nv 4 9 0\ne 2\n".as_slice()
-    );
-    Ok(())
-}
-
-#[test]
-fn statuses_have_their_numbers(rt: HostRuntime) {
-    let statuses = [
-        Status::Done,
-        Status::Usage,
-        Status::ReadFault,
-        Status::WriteFault,
-        Status::TooLong,
-        Status::NoMemory,
-    ];
-    for (number, status) in statuses.iter().enumerate() {
-        assert_eq!(rt; usize::from(status.number()), number);
-    }
 }

@@ -6,7 +6,7 @@ ghost use Rattle.craig_spec.specs.Literal.{Literal};
 ghost use Rattle.craig_base.specs.Names.{AreNames};
 ghost use Rattle.craig_solver.specs.Answer.{IsAnswer, root_of_answer};
 ghost use Rattle.craig_solver.specs.Told.{IsToldOf, TellsAnswer};
-ghost use Rattle.craig_top.specs.Appended.{AppendsOnly};
+ghost use Rattle.craig_top.specs.Appended.{AppendsOnly, AppendsText};
 ghost use Rattle.craig_top.specs.LastRefutation.{IsSolveReplyBy};
 ghost use Rattle.craig_top.specs.ModelReply.{IsModelReply};
 ghost use Rattle.craig_top.specs.Naming.{named_clause};
@@ -41,8 +41,7 @@ pub fn append_verdict(
     requires told { IsToldOf clauses.now store.now.told }
     requires answer { IsAnswer (map (λ c. c.1) clauses.now) (length names.now) [] None answer.now }
     requires refuted { TellsAnswer clauses.now [] answer.now store.now.told }
-    ensures reply { OnOk result ((text : List ℕ) × IsSolveReplyBy names.now store.now.told.steps (root_of_answer answer.now) (stored_state sides.now.parts names.now clauses.now) [] text
-        × (out.new.items ≡ out.old.items ++ text)) }
+    ensures reply { OnOk result (AppendsText out.old.items out.new.items (IsSolveReplyBy names.now store.now.told.steps (root_of_answer answer.now) (stored_state sides.now.parts names.now clauses.now) [])) }
     ensures appends { AppendsOnly out.old.items out.new.items }
 {
     craig_base::laws::values_are_an_assignment();

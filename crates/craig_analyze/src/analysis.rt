@@ -218,6 +218,30 @@ mod tests {
         Ok(learnt.rest.as_slice().len() == steps && is_end_of_chain(alloc, held, learnt)?)
     }
 
+    /// Three clauses, one of which is false once variable 0 is true and the others are propagated.
+    fn hold_cycle(held: &mut Held) -> Result<(), AllocError>
+        requires level { held.old.level ≡ 0 }
+        requires vars { held.old.vars ≡ 0 }
+    {
+        held.grow(3)?;
+        held.hold(&[negative(0), positive(1)], FLAGS)?;
+        held.hold(&[negative(1), positive(2)], FLAGS)?;
+        held.hold(&[negative(2), negative(0)], FLAGS)?;
+        Ok(())
+    }
+
+    #[test]
+    fn the_literal_of_a_decision_is_learnt(rt: HostRuntime) -> Result<(), Fail> {
+        let mut held = Held::new(rt.alloc());
+        hold_cycle(&mut held)?;
+        assert!(rt; decide_next(&mut held, Var(0))?);
+        let Some(learnt) = learn_next(rt.alloc(), &mut held)? else {
+            panic!(rt; "a clause is false");
+        };
+        assert!(rt; is_wanted(rt.alloc(), &held, &learnt, &[negative(0)], (0, 1), 2)?);
+        Ok(())
+    }
+
     /// Clauses that make a clause false at the third decision, with literals of three levels and of level 0.
     fn hold_levels(held: &mut Held) -> Result<(), AllocError>
         requires level { held.old.level ≡ 0 }

@@ -122,6 +122,28 @@ mod tests {
     };
 
     #[test]
+    fn a_decision_is_propagated_through_two_clauses(rt: HostRuntime) -> Result<(), Fail> {
+        let mut held = Held::new(rt.alloc());
+        let v0 = Lit::new(Var(0), false);
+        let v1 = Lit::new(Var(1), false);
+        let v2 = Lit::new(Var(2), false);
+        held.grow(3)?;
+        assert_eq!(rt; held.hold(&[v0.not(), v1], FLAGS)?, ClauseId(0));
+        assert_eq!(rt; held.hold(&[v1.not(), v2], FLAGS)?, ClauseId(1));
+        assert_eq!(rt; held.number()?, ClauseId(2));
+        let None = held.propagate()? else {
+            panic!(rt; "no clause is false yet");
+        };
+        assert!(rt; held.value(v0) == Value::Free);
+        held.decide(v0);
+        assert!(rt; held.propagate()?.is_none());
+        assert!(rt; held.value(v1) == Value::True);
+        assert!(rt; held.value(v2) == Value::True);
+        assert_eq!(rt; held.reason(Var(2)), Some(ClauseId(1)));
+        Ok(())
+    }
+
+    #[test]
     fn a_false_clause_is_reported_and_undone(rt: HostRuntime) -> Result<(), Fail> {
         let mut held = Held::new(rt.alloc());
         let v0 = Lit::new(Var(0), false);

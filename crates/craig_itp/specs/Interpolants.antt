@@ -44,14 +44,20 @@ HasSharedInputs sides cut nodes e = (x : ℕ) → Contains (cone nodes e) x → 
 
 -- the edge of the arena is the interpolant of the refutation at the cut
 pub record IsInterpolant (sides : SidesView) (cut : ℕ) (marks : ℕ → Label) (steps : List ToldStep) (root : ℕ) (nodes : List Node) (e : Edge) : Type 0 where
+  -- it is of the arena
   pub within : e.place < length nodes
+  -- it has the value that the rules give to the root
   pub value : HasPartialValue sides cut marks steps root nodes e
+  -- each variable that it reaches is shared
   pub inputs : HasSharedInputs sides cut nodes e
 
 -- there is an interpolant for each cut, from 0 to the number of parts, all of the one refutation
 pub record AreInterpolants (sides : SidesView) (marks : ℕ → Label) (steps : List ToldStep) (root : ℕ) (nodes : List Node) (edges : List Edge) : Type 0 where
+  -- one for each cut
   pub count : length edges ≡ sides.parts + 1
+  -- each is the interpolant at its cut
   pub each : (cut : ℕ) (e : Edge) → slice_get edges cut ≡ Some e → IsInterpolant sides cut marks steps root nodes e
-  -- at the outer cuts they are the constants
+  -- that of cut 0 is the constant true, where the originals have parts
   pub first : NeededHaveParts sides.parts steps root → slice_get edges 0 ≡ Some (constant_edge true)
+  -- and that of the last cut the constant false
   pub last : NeededHaveParts sides.parts steps root → slice_get edges sides.parts ≡ Some (constant_edge false)

@@ -15,8 +15,11 @@ MeetsRules l s steps value = (step : ToldStep) → Contains steps step → value
 
 -- the two are one step, but for the mark of a forgotten one
 pub record IsSameStep (q r : ToldStep) : Type 0 where
+  -- they have one id
   pub id : q.id ≡ r.id
+  -- the same clause
   pub literals : q.literals ≡ r.literals
+  -- and the same origin
   pub origin : q.origin ≡ r.origin
 
 -- each step of the first list is one of the second
@@ -41,10 +44,15 @@ ValueImplies low high steps id s = IsTrue (partial_interpolant low steps id s) �
 
 -- the steps end in the empty clause under the root, and the originals that it needs are of parts in which the sides have noted their variables
 pub record IsNotedRefutation (sides : SidesView) (t : Told) (root : ℕ) : Type 0 where
+  -- what holds of all sides
   pub is_sides : IsSides sides
+  -- the steps stand
   pub told : IsTold t
+  -- the root is the empty clause
   pub empty : clause_told t.steps root ≡ Some []
+  -- the sides have noted the variables of the originals that it needs
   pub noted : NeededAreNoted sides t.steps root
+  -- which are of parts from 1 to the last one
   pub parts : NeededHaveParts sides.parts t.steps root
 
 -- the originals that the root needs of parts above the one number and up to the other are true

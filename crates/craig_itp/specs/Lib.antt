@@ -1,4 +1,5 @@
 pub mod CutTracer
 pub mod Interpolants
 pub mod Labellings
+pub mod PartialValues
 pub mod StepEdges

@@ -23,27 +23,40 @@ crossing_label on_side_a = if on_side_a then B else A
 
 -- the edge has the value of an original of the part, and reaches variables of the clause alone that are labelled as ones of the other side
 pub record IsLeafEdge (l : Labelling) (part : ℕ) (c : Clause) (nodes : List Node) (e : Edge) : Type 0 where
+  -- its value
   pub value : (s : Assignment) → edge_value s nodes e ≡ (if l.on_side_a part then leaf_a_value l.label s c else leaf_b_value l.label s c)
+  -- its variables
   pub inputs : (x : ℕ) → Contains (cone nodes e) x → IsTrue (occurs_in_clause x c) × (l.label x ≡ crossing_label (l.on_side_a part))
 
 -- one of the edges reaches the variable
 pub record IsEdgeReached (edges : List StepEdge) (nodes : List Node) (x : ℕ) : Type 0 where
+  -- the edge of a step
   pub step : StepEdge
+  -- that is one of them
   pub known : Contains edges step
+  -- and reaches the variable
   pub reached : Contains (cone nodes step.edge) x
 
 -- whatever values the ids have that the edges of the old arena have, the edge has the value of the chain; it reaches what those edges reach, and variables labelled AB
 pub record IsChainEdge (label : ℕ → Label) (edges : List StepEdge) (old : List Node) (first : ℕ) (rest : List ChainStep) (nodes : List Node) (e : Edge) : Type 0 where
+  -- its value
   pub value : (s : Assignment) (value : ℕ → Bool) → ((step : StepEdge) → Contains edges step → edge_value s old step.edge ≡ value step.id.0) → edge_value s nodes e ≡ chain_value label s value (value first) rest
+  -- its variables
   pub inputs : (x : ℕ) → Contains (cone nodes e) x → (label x ≡ AB) ⊎ IsEdgeReached edges old x
 
 -- the variable is one of an original, and labelled as one of the other side
 pub record Crosses (l : Labelling) (steps : List ToldStep) (x : ℕ) : Type 0 where
+  -- a step
   pub step : ToldStep
+  -- and a part
   pub part : ℕ
+  -- the step was told
   pub told : Contains steps step
+  -- as an original of the part
   pub original : step.origin ≡ Original part
+  -- its clause has the variable
   pub occurs : IsTrue (occurs_in_clause x step.literals)
+  -- which is labelled as one of the other side
   pub label_is : l.label x ≡ crossing_label (l.on_side_a part)
 
 -- the rules let the variable into edges
@@ -52,14 +65,22 @@ MayEnter l steps x = (l.label x ≡ AB) ⊎ Crosses l steps x
 
 -- the edge is one of the arena for the clause under the id: it has its partial value, and reaches variables alone that the rules let in
 pub record IsEdgeOf (l : Labelling) (steps : List ToldStep) (nodes : List Node) (id : ℕ) (e : Edge) : Type 0 where
+  -- it is of the arena
   pub within : e.place < length nodes
+  -- its value
   pub value : (s : Assignment) → edge_value s nodes e ≡ partial_interpolant l steps id s
+  -- its variables
   pub inputs : (x : ℕ) → Contains (cone nodes e) x → MayEnter l steps x
 
 -- what a tracer keeps: an arena whose first nodes are the older ones, whose edges it keeps, and for each told step at the same place its edge
 pub record AreEdges (l : Labelling) (steps : List ToldStep) (older : ℕ) (nodes : List Node) (edges : List StepEdge) : Type 0 where
+  -- the nodes are an arena
   pub is_arena : IsAig nodes
+  -- the older nodes are at its front
   pub within : older ≤ length nodes
+  -- and keep their edges
   pub kept : KeepsEdges (take older nodes) nodes
+  -- the edges have the ids of the steps
   pub ids : map (λ (e : StepEdge). e.id.0) edges ≡ map (λ (s : ToldStep). s.id) steps
+  -- each is that of the clause under its id
   pub each : (e : StepEdge) → Contains edges e → IsEdgeOf l steps nodes e.id.0 e.edge

@@ -1,3 +1,5 @@
+//! A tracer that interpolates at one cut while it is told: partial interpolants clause by clause after McMillan, CAV 2003,
+//! and Pudlák, JSL 1997, in the labelled form of D'Silva, Kroening, Purandare and Weissenbacher, VMCAI 2010.
 ghost use Rattle.std.specs.Prelude.{◌≡◌, ◌≤◌, ◌<◌, ◌↔◌, Some, None, true, false, All, is_some, length, IfSome, OnOk, OnErr, IsErr};
 ghost use Rattle.std.specs.Option.{ForSome, option_map};
 ghost use Rattle.craig_base.specs.Clauses.{IsNormal};

@@ -1,3 +1,4 @@
+//! A list of edges as one value.
 ghost use Rattle.std.specs.Prelude.{◌≡◌, ◌++◌, [], ◌∷◌, OnOk, OnErr};
 
 use craig_aig::Edge;

@@ -38,7 +38,8 @@ fn replayed_edge<S: System>(
 
 /// The interpolant of one cut: the edge that the rules of the system give to the root, over the kept chains that it
 /// needs. The root was told as the empty clause and isn't forgotten, and the sides have noted each variable of the
-/// originals that it needs in their parts.
+/// originals that it needs in their parts. No clause here uses that the root is empty: it is asked for because the edge
+/// separates the two sides only then, as [`laws::cuts_of_a_refutation`](crate::laws::cuts_of_a_refutation) says.
 ///
 /// Each input of the edge's cone occurs on both sides of the cut. Older edges of the arena keep their functions, after
 /// an error too; gates may then be left that nothing names. Only want of memory is an error.

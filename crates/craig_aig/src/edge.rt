@@ -1,3 +1,4 @@
+//! A node or its negation in one machine word, as the literals of Biere's AIGER format (2006) have it.
 ghost use Rattle.std.specs.Prelude.{◌≡◌, ◌<◌, ◌^◌, nat_eq};
 ghost use Rattle.std.specs.Cmp.Rules.{comparing, hashing};
 ghost use Rattle.std.specs.Hash as fed;

@@ -1,3 +1,4 @@
+//! How many nodes an arena had once: what is newer can be dropped at once, as a stack is cut back.
 ghost use Rattle.std.specs.Prelude.{◌≡◌, ◌≤◌};
 
 use std::marker::Model;

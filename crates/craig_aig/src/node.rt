@@ -1,3 +1,5 @@
+//! What stands in an arena: the constant, inputs, and conjunctions of two edges (Kuehlmann, Paruthi, Krohm and Ganai,
+//! TCAD 2002).
 use crate::Edge;
 use craig_base::Var;
 

@@ -1,3 +1,4 @@
+//! Labels of variables that both sides of a cut have.
 /// How a variable is labelled that occurs on both sides of a cut.
 ///
 /// Marks rise from B over Ab to A, as labels do in D'Silva, Kroening, Purandare and Weissenbacher, VMCAI 2010: the

@@ -1,3 +1,4 @@
+//! The parts that a variable occurs in, by the first and the last of them: they tell its side at every cut.
 ghost use Rattle.std.specs.Prelude.{◌≡◌};
 ghost use Rattle.craig_label.specs.Sides.{widened};
 

@@ -1,3 +1,4 @@
+//! On which sides of a cut a variable occurs.
 /// Where a variable occurs at a cut.
 #[derive(Clone, Copy, Debug, PartialEq, Eq, Hash)]
 pub enum Side {

@@ -1,5 +1,5 @@
 -- The outputs of a layout have the values and the cones of their edges.
-use Rattle.std.proofs.Common.{◌≡◌, inl, inr, ℕ, suc, ◌+◌, ◌*◌, ◌<◌, ◌/◌, ◌%◌, Bool, true, false, cond, ◌&&◌, nat_lt, eqb, List, [], ◌∷◌, ◌++◌, length, get_or, take, map, Option, Some, None, All, Contains, slice_get, refl, sym, ap, ◌∙◌, subst, arith}
+use Rattle.std.proofs.Common.{◌≡◌, inl, inr, ℕ, suc, ◌+◌, ◌*◌, ◌<◌, ◌/◌, ◌%◌, Bool, true, false, cond, ◌&&◌, nat_lt, eqb, List, [], ◌∷◌, ◌++◌, length, get_or, take, map, Option, Some, All, Contains, slice_get, refl, sym, ap, ◌∙◌, subst, arith}
 use Rattle.std.proofs.lemmas.Option.{none-some, same_Some}
 use Rattle.std.specs.Option.{is_some}
 use Rattle.std.specs.List.{filter_map}

@@ -14,7 +14,7 @@ use Rattle.std.proofs.lemmas.Option.{slice_get_within, get_or_from_slice_get}
 use Rattle.craig_spec.specs.Truth.{variable_value}
 use Rattle.craig_spec.specs.Circuit.{Circuit, Gate, Output, circuit_cone, circuit_value, variable_count}
 use Rattle.craig_spec.specs.AigerReading as reading
-use Rattle.craig_spec.specs.AigerFault.{Fault, FaultKind}
+use Rattle.craig_spec.specs.AigerFault.{FaultKind}
 use Rattle.craig_spec.specs.AigerReading.{AigerFile, Counts, GateLine, RootLine, Symbol, TextLine, Written, all_differ, all_read, by_depth, counts_checked, counts_of, fault, file_by, file_written, header_in, header_of, input_variables, lines_of, moved, moved_gates, name_of, named_output, named_roots, names_of, numbered, numbers_in, read_aag, read_from, variable_in, variables_of, written_in, ◌>>?◌}
 use Rattle.craig_aiger.specs.AsciiText.{aag_text}
 use Rattle.craig_aiger.specs.declared.out_name.OutName.{OutName}

@@ -1,14 +1,13 @@
 -- The file that is written so, and the circuit that it is.
-use Rattle.std.proofs.Common.{◌≡◌, ℕ, suc, ◌+◌, ◌<◌, ◌≤◌, ◌/◌, false, eqb, eq-eqb, List, [], ◌∷◌, ◌++◌, length, get_or, map, Option, Some, None, Ok, slice_get, refl, ap, ◌∙◌, arith}
-use Rattle.std.specs.List.{enumerate_from, find, range_with_len}
-use Rattle.std.specs.Option.{is_none, option_map}
+use Rattle.std.proofs.Common.{◌≡◌, ℕ, suc, ◌+◌, ◌<◌, ◌/◌, false, eqb, eq-eqb, List, [], ◌∷◌, ◌++◌, length, get_or, map, Some, None, Ok, slice_get, refl, ap, ◌∙◌, arith}
+use Rattle.std.specs.List.{find, range_with_len}
+use Rattle.std.specs.Option.{option_map}
 use Rattle.std.proofs.lemmas.Bool.Decides.{nat_tests}
 use Rattle.std.proofs.lemmas.List.{append-nil, length-map}
 use Rattle.std.proofs.lemmas.List.FromFn.{get_or-range_with_len, length-range_with_len}
 use Rattle.std.proofs.lemmas.List.Sums.{position_or_len_is}
-use Rattle.std.proofs.lemmas.Option.{slice_get-get_or}
 use Rattle.craig_spec.specs.Circuit.{Gate}
-use Rattle.craig_spec.specs.AigerReading.{GateLine, RootLine, Symbol, Use, Written, by_depth, file_by, file_written, first_cyclic, first_gate, first_undefined, gate_depth, gate_use, is_new, numbered, numbered_gates, place_in, root_use, uses_of, uses_other, variables_of}
+use Rattle.craig_spec.specs.AigerReading.{GateLine, RootLine, Symbol, Use, Written, by_depth, file_by, file_written, first_cyclic, first_gate, first_undefined, gate_use, is_new, numbered, numbered_gates, place_in, root_use, uses_of, uses_other, variables_of}
 use Rattle.craig_spec.proofs.AigerDepthLemmas.{HaveDepths-none, HaveDepths-ordered, InOrder}
 use Rattle.craig_spec.proofs.AigerOrderLemmas.{has-range}
 use Rattle.craig_aiger.proofs.TextSectionLemmas.{operands_of, range-split, variables_of_gates}

@@ -108,9 +108,9 @@ IsFaultOf (NoMemory e) read = Unit {0}
 IsFaultOf (Refused r) read = read ≡ Err r
 
 -- what was returned is what reading gives, unless memory ran out
-abbrev pub IsReadAs : {X : Type 0} → Result X LineFault → Result X Refusal → Type 0
-IsReadAs (Ok x) read = read ≡ Ok x
-IsReadAs (Err e) read = IsFaultOf e read
+abbrev pub IsParsedAs : {X : Type 0} → Result X LineFault → Result X Refusal → Type 0
+IsParsedAs (Ok x) read = read ≡ Ok x
+IsParsedAs (Err e) read = IsFaultOf e read
 
 -- want of memory
 abbrev pub IsNoMemory : LineFault → Type 0

@@ -5,7 +5,7 @@
 ghost use Rattle.std.specs.Prelude.{◌≡◌, List, ℤ, [], ◌∷◌, codes, IsTrue, IsErrAnd, slice_index, ◌==◌};
 ghost use Rattle.std.specs.Str.{bytes_eq};
 ghost use Rattle.craig_script.specs.Words.{words};
-ghost use Rattle.craig_script.specs.Reading.{IsReadAs, IsNoMemory, parsed, command_of, add_of, solve_of, literals_to_end, is_comment, is_end, then_nothing, begins_clause, begins_with_literal, begins_with_part_and_literal, may_take_memory};
+ghost use Rattle.craig_script.specs.Reading.{IsParsedAs, IsNoMemory, parsed, command_of, add_of, solve_of, literals_to_end, is_comment, is_end, then_nothing, begins_clause, begins_with_literal, begins_with_part_and_literal, may_take_memory};
 
 use crate::command::Command;
 use crate::line::Line;
@@ -20,7 +20,7 @@ use std::alloc::Global;
 /// The command that a line asks for. An overlong line is refused as such, and any other line that isn't
 /// in the grammar as `Syntax`. Only the literals of a clause take memory.
 pub fn parse(alloc: Global, line: &Line) -> Result<Command, LineFault>
-    ensures read { IsReadAs result (parsed line.now) }
+    ensures read { IsParsedAs result (parsed line.now) }
     ensures memory { IsErrAnd result IsNoMemory → IsTrue (may_take_memory line.now) }
 {
     match line {
@@ -34,7 +34,7 @@ pub fn parse(alloc: Global, line: &Line) -> Result<Command, LineFault>
 
 /// The command that the words ask for.
 fn command(alloc: Global, line: &[u8]) -> Result<Command, LineFault>
-    ensures read { IsReadAs result (command_of (words line.now)) }
+    ensures read { IsParsedAs result (command_of (words line.now)) }
     ensures memory { IsErrAnd result IsNoMemory → IsTrue (begins_clause (words line.now)) }
 {
     let Some((word, rest)) = next_word(line) else {
@@ -53,7 +53,7 @@ fn command(alloc: Global, line: &[u8]) -> Result<Command, LineFault>
 
 /// A part, literals, and the end.
 fn add(alloc: Global, line: &[u8]) -> Result<Command, LineFault>
-    ensures read { IsReadAs result (add_of (words line.now)) }
+    ensures read { IsParsedAs result (add_of (words line.now)) }
     ensures memory { IsErrAnd result IsNoMemory → IsTrue (begins_with_part_and_literal (words line.now)) }
 {
     let Some((word, rest)) = next_word(line) else {
@@ -68,7 +68,7 @@ fn add(alloc: Global, line: &[u8]) -> Result<Command, LineFault>
 
 /// The end alone.
 fn solve(alloc: Global, line: &[u8]) -> Result<Command, LineFault>
-    ensures read { IsReadAs result (solve_of (words line.now)) }
+    ensures read { IsParsedAs result (solve_of (words line.now)) }
     ensures memory { IsErrAnd result IsNoMemory → ⊥ }
 {
     match next_word(line) {
@@ -81,7 +81,7 @@ fn solve(alloc: Global, line: &[u8]) -> Result<Command, LineFault>
 
 /// Literals, and the end.
 fn literals(alloc: Global, line: &[u8]) -> Result<Numbers, LineFault>
-    ensures read { IsReadAs result (literals_to_end (words line.now)) }
+    ensures read { IsParsedAs result (literals_to_end (words line.now)) }
     ensures memory { IsErrAnd result IsNoMemory → IsTrue (begins_with_literal (words line.now)) }
 {
     let mut lits = Numbers::new(alloc);

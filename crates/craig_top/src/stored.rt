@@ -3,7 +3,7 @@
 ghost use Rattle.std.specs.Prelude.{◌≡◌, ◌≤◌, ℕ, [], ◌++◌, false, List, None, IsTrue, map, Ok, OnOk, OnErr, IfOk};
 ghost use Rattle.std.specs.List.{list_all};
 ghost use Rattle.std.specs.Int.RustNames.{unsigned_abs};
-ghost use Rattle.craig_script.specs.Reading.{IsReadAs, admitted, is_within, variable_limit};
+ghost use Rattle.craig_script.specs.Reading.{IsParsedAs, admitted, is_within, variable_limit};
 ghost use Rattle.craig_script.specs.declared.command.Command.{Command};
 ghost use Rattle.craig_top.specs.Appended.{AppendsOnly, AppendsText};
 ghost use Rattle.craig_top.specs.GivenState.{reading, next, obeyed};
@@ -71,7 +71,7 @@ impl Stored {
 
     /// The command of a line, or the first reason to refuse it.
     fn read(&self, line: &Line) -> Result<Command, LineFault>
-        ensures reading { IsReadAs result (reading (given_state self.now) line.now) }
+        ensures reading { IsParsedAs result (reading (given_state self.now) line.now) }
         ensures admitted { IfOk result (λ command. admitted self.now.sides.parts command ≡ Ok tt) }
         ensures unassuming { IfOk result IsUnassuming }
     {

@@ -64,10 +64,6 @@ mod tests {
             clauses.push(clause)?;
         }
         assert_eq!(rt; clauses.as_slice().len(), 2);
-        assert_eq!(rt;
-            clauses.as_slice()[1].as_slice(),
-            [Lit::new(Var(5), false)].as_slice()
-        );
         Ok(())
     }
 }

@@ -87,14 +87,4 @@ mod tests {
             assert!(rt; pair[0] < pair[1]);
         }
     }
-
-    #[test]
-    fn a_literal_has_its_variable_and_sign(rt: HostRuntime) {
-        for (number, negated) in [(0, false), (7, true), (2147483647, true)] {
-            let literal = Lit::new(Var(number), negated);
-            assert_eq!(rt; literal.var(), Var(number));
-            assert_eq!(rt; literal.negated(), negated);
-            assert_eq!(rt; literal.not(), Lit::new(Var(number), !negated));
-        }
-    }
 }

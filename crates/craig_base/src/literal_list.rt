@@ -66,7 +66,6 @@ mod tests {
     fn pushed_literals_stand_in_order(rt: HostRuntime) -> Result<(), Fail> {
         let positive = Lit::new(Var(3), false);
         let mut literals = Lits::new(rt.alloc());
-        assert!(rt; literals.as_slice().is_empty());
         literals.push(positive.not())?;
         literals.push(positive)?;
         assert_eq!(rt; literals.as_slice(), [positive.not(), positive].as_slice());

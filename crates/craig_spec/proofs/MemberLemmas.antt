@@ -1,7 +1,7 @@
 -- Members of lists, tests and places.
 use Rattle.std.proofs.Common.{◌≡◌, ◌∙◌, sym, ap, refl, ℕ, zero, suc, ◌<◌, Bool, true, ◌⊎◌, List, [], ◌∷◌, length, length-take, take, map, All, Contains, Some, option_map, slice_get, arith, filter, inl, inr}
 use Rattle.std.specs.List.{list_any, list_all}
-use Rattle.std.proofs.lemmas.Bool.{and_parts, or_left, or_right, or_cases}
+use Rattle.std.proofs.lemmas.Bool.{and_parts, and_from, or_left, or_right, or_cases}
 use Rattle.std.proofs.lemmas.List.{get_or-map, get_or-take, length-map}
 use Rattle.std.proofs.lemmas.Option.{slice_get-map}
 
@@ -59,6 +59,12 @@ pub list_all-member : {A : Type 0} (p : A → Bool) (xs : List A) (x : A) → Co
 list_all-member p [] x (k, within, at) e = absurd (omega (arith, within))
 list_all-member p (y ∷ xs) x (zero, within, at) e = sym (ap p at) ∙ (and_parts _ _ e).0
 list_all-member p (y ∷ xs) x (suc k, within, at) e = list_all-member p xs x (k, omega (arith, within), at) (and_parts _ _ e).1
+
+-- and all pass where each member does
+pub list_all-members : {A : Type 0} (p : A → Bool) (xs : List A) → ((x : A) → Contains xs x → p x ≡ true) → list_all p xs ≡ true
+list_all-members p [] each = refl
+list_all-members p (y ∷ xs) each =
+    and_from _ _ (each y (Contains-front y xs)) (list_all-members p xs (λ x here. each x (Contains-later y xs x here)))
 
 -- the place of an image is that of what it is the image of
 pub slice_get-from_map : {A B : Type 0} (f : A → B) (xs : List A) (k : ℕ) (y : B) → slice_get (map f xs) k ≡ Some y → (x : A) × (slice_get xs k ≡ Some x) × (f x ≡ y)

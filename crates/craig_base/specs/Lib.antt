@@ -2,6 +2,8 @@ pub mod Arena
 pub mod ArenaTable
 pub mod Clauses
 pub mod Counting
+pub mod LawsOfArenas
+pub mod LawsOfClauses
 pub mod LemmaRule
 pub mod LiteralCodes
 pub mod Literals

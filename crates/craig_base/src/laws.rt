@@ -1,12 +1,12 @@
 //! Laws of arenas, for proofs about any caller of one. The functions do nothing.
-ghost use Rattle.std.specs.Prelude.{◌≡◌, ◌≢◌, ◌⊎◌, ◌<◌, ◌≤◌, ◌^◌, ◌↔◌, ◌++◌, [], ◌∷◌, ℕ, Bool, false, List, Option, Some, All, AllPairs, Contains, IsTrue, length, slice_index_or};
-ghost use Rattle.std.specs.Option.{option_map};
+ghost use Rattle.std.specs.Prelude.{◌≡◌, ◌<◌, ◌^◌, ◌++◌, [], ◌∷◌, ℕ, Bool, false, List, Some, Contains, slice_index_or};
 ghost use Rattle.craig_spec.specs.Literal.{Clause};
-ghost use Rattle.craig_spec.specs.Chain.{GivesSame, SameLiterals};
-ghost use Rattle.craig_spec.specs.Truth.{Assignment, IsModel, clause_value, variable_value};
-ghost use Rattle.craig_base.specs.Clauses.{IsNormal};
+ghost use Rattle.craig_spec.specs.Chain.{GivesSame};
+ghost use Rattle.craig_spec.specs.Truth.{variable_value};
 ghost use Rattle.craig_base.specs.Values.{assignment_of_values};
-ghost use Rattle.craig_base.specs.Arena.{ArenaView, FlaggedClause, ChangesOnly, IsArena, IsLive, OnlyReorders, clause_at, clauses_of, literals_at, literals_of, with_clause};
+ghost use Rattle.craig_base.specs.Arena.{ArenaView, FlaggedClause, IsArena, IsLive, OnlyReorders, clauses_of, literals_at, literals_of, with_clause};
+ghost use Rattle.craig_base.specs.LawsOfArenas.{FoundClausesAreListed, OneClauseChanges, ModelsMakeFoundClausesTrue, ModelsFromFoundClauses};
+ghost use Rattle.craig_base.specs.LawsOfClauses.{NormalClausesAreFew};
 
 /// An id under which a clause is live was given, so nothing is live under the next one.
 pub fn live_ids_were_given()
@@ -16,7 +16,7 @@ pub fn live_ids_were_given()
 /// A clause is found under an id exactly where the list has it with this id, and the list of the literals has exactly
 /// those of the clauses that are found.
 pub fn clauses_are_found()
-    ensures found { (a : ArenaView) (id : ℕ) (c : FlaggedClause) → IsArena a → (clause_at a id ≡ Some c) ↔ Contains a.clauses (record { id = id; clause = c }) }
+    ensures found { FoundClausesAreListed }
     ensures literals { (a : ArenaView) (id : ℕ) → IsLive a id → literals_of a id ≡ Some (literals_at a id) }
     ensures listed { (a : ArenaView) (id : ℕ) (c : Clause) → literals_of a id ≡ Some c → Contains (clauses_of a) c }
     ensures looked_up { (a : ArenaView) (c : Clause) → IsArena a → Contains (clauses_of a) c → (id : ℕ) × (literals_of a id ≡ Some c) }
@@ -26,13 +26,13 @@ pub fn clauses_are_found()
 /// After a call that changes what is live under one id, the literals under an id are the new ones under this id, or
 /// those from before under another.
 pub fn one_clause_changes()
-    ensures { (old new : ArenaView) (id : ℕ) (now : Option FlaggedClause) → ChangesOnly old new id now → (k : ℕ) (c : Clause) → literals_of new k ≡ Some c → ((k ≡ id) × (option_map (λ f. f.literals) now ≡ Some c)) ⊎ ((k ≢ id) × (literals_of old k ≡ Some c)) }
+    ensures { OneClauseChanges }
 {}
 
 /// The models of the live clauses are the assignments that make each clause true that is found under an id.
 pub fn models_of_an_arena()
-    ensures looked_up { (a : ArenaView) (s : Assignment) → IsModel s (clauses_of a) → (id : ℕ) (c : Clause) → literals_of a id ≡ Some c → IsTrue (clause_value s c) }
-    ensures model { (a : ArenaView) (s : Assignment) → IsArena a → ((id : ℕ) (c : Clause) → literals_of a id ≡ Some c → IsTrue (clause_value s c)) → IsModel s (clauses_of a) }
+    ensures looked_up { ModelsMakeFoundClausesTrue }
+    ensures model { ModelsFromFoundClauses }
 {}
 
 /// Where clauses only change the order of their literals, each id has the same literals as before, and a clause that
@@ -47,7 +47,7 @@ pub fn reordered_clauses()
 /// No longer list: there are at most `3^v` normal clauses over `v` variables, and so many clauses stand in a list in
 /// which no two have the same literals.
 pub fn no_longer_list()
-    ensures { (v : ℕ) (cs : List Clause) → All (λ c. IsNormal c × All (λ l. l.var < v) c) cs → AllPairs (λ c d. ¬ SameLiterals c d) cs → length cs ≤ 3 ^ v }
+    ensures { NormalClausesAreFew }
 {}
 
 /// A variable is true under the assignment of a list of values where its value is, and false where it has none.

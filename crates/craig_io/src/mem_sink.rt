@@ -5,7 +5,7 @@ ghost use Rattle.craig_io.specs.Faults.{Rose, raised};
 ghost use Rattle.craig_io.specs.ToldBytes.{StaysTold};
 ghost use Rattle.craig_io.specs.Sink.{AppendsFirst};
 ghost use Rattle.craig_io.specs.Calls.{CallsMade, call_counted, fault_counted};
-ghost use Rattle.craig_io.specs.MemSink.{MemSinkView, IsMemSink};
+ghost use Rattle.craig_io.specs.MemSink.{MemSinkView, IsMemSink, WriteFails, with_written};
 
 use crate::calls::Calls;
 use crate::failure::Failed;
@@ -91,9 +91,9 @@ impl Sink for MemSink {
         ensures count_fits { self.new.calls.faults < 2 ^ 64 }
 
         // This one alone.
-        ensures fails_as_listed { IsErr result ↔ (Contains self.old.calls.fails (raised self.old.calls.made) ⊎ (self.old.room ≤ length self.old.held)) }
+        ensures fails_as_listed { IsErr result ↔ WriteFails self.old }
         ensures amount { IfOk result (λ n. n ≡ min (min self.old.piece (length bytes.now)) (self.old.room - length self.old.held)) }
-        ensures ok { IfOk result (λ n. self.new ≡ record self.old { held = self.old.held ++ take n bytes.now; calls = call_counted self.old.calls }) }
+        ensures ok { IfOk result (λ n. self.new ≡ with_written n bytes.now self.old) }
         ensures err { OnErr result (self.new ≡ record self.old { calls = fault_counted (call_counted self.old.calls) }) }
     {
         let fails = self.calls.next_fails();

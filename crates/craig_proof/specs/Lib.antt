@@ -1,5 +1,8 @@
 pub mod ChainStore
 pub mod Covers
+pub mod LawsOfChains
+pub mod LawsOfCovering
+pub mod LawsOfSteps
 pub mod NeededMarks
 pub mod Pair
 pub mod StoredSteps

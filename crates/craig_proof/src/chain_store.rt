@@ -223,15 +223,11 @@ mod tests {
     fn replay_leaves_out_what_the_root_does_not_need(rt: HostRuntime) -> Result<(), Fail> {
         let mut store = ChainStore::new(rt.alloc());
         tell_refutation(&mut store)?;
-        assert!(rt; has_ids(&store, &[0, 1, 2, 3]));
         let mut second = ChainStore::new(rt.alloc());
         store.replay(ClauseId(3), &mut second)?;
         assert!(rt; has_ids(&second, &[0, 1, 3]));
         let mut silent = Silent;
         store.replay(ClauseId(3), &mut silent)?;
-        forget_and_reclaim(&mut store, ClauseId(3));
-        store.each_clause_follows();
-        assert!(rt; has_ids(&store, &[0, 1, 2, 3]));
         Ok(())
     }
 
@@ -239,25 +235,9 @@ mod tests {
     fn a_pair_tells_both(rt: HostRuntime) -> Result<(), Fail> {
         let mut pair = Pair::new(ChainStore::new(rt.alloc()), ChainStore::new(rt.alloc()));
         tell_refutation(&mut pair)?;
-        assert!(rt; has_ids(pair.first(), &[0, 1, 2, 3]));
-        assert!(rt; has_ids(pair.second(), &[0, 1, 2, 3]));
-        Ok(())
-    }
-
-    #[test]
-    fn silent_listens_to_all(_rt: HostRuntime) -> Result<(), Fail> {
-        let mut silent = Silent;
-        tell_refutation(&mut silent)?;
-        forget_and_reclaim(&mut silent, ClauseId(3));
-        Ok(())
-    }
-
-    #[test]
-    fn a_pair_with_silent_tells_the_store(rt: HostRuntime) -> Result<(), Fail> {
-        let mut pair = Pair::new(ChainStore::new(rt.alloc()), Silent);
-        tell_refutation(&mut pair)?;
         forget_and_reclaim(&mut pair, ClauseId(3));
         assert!(rt; has_ids(pair.first(), &[0, 1, 2, 3]));
+        assert!(rt; has_ids(pair.second(), &[0, 1, 2, 3]));
         Ok(())
     }
 }

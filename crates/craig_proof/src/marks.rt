@@ -2,7 +2,7 @@
 ghost use Rattle.std.specs.Prelude.{◌≡◌, ◌||◌, ℕ, false, All, length, map, nat_eq, IfOk};
 ghost use Rattle.std.specs.List.{list_any};
 ghost use Rattle.craig_spec.specs.Chain.{AreRising, EachStands, antecedents};
-ghost use Rattle.craig_proof.specs.NeededMarks.{AreNeededMarks, HasId, mark_of};
+ghost use Rattle.craig_proof.specs.NeededMarks.{AreNeededMarks, HasId, MarksMore, mark_of};
 ghost use Rattle.craig_proof.specs.StoredSteps.{origin_of, step_of};
 ghost use Rattle.craig_proof.specs.Tracer.{chain_of};
 
@@ -17,7 +17,7 @@ fn mark(marks: &mut [bool], steps: &[StoredStep], id: ClauseId)
     requires rising { AreRising (map step_of steps.now) }
     requires lengths { length marks.old ≡ length steps.now }
     requires stands { HasId (map step_of steps.now) id.0 }
-    ensures { (x : ℕ) → mark_of (map step_of steps.now) marks.new x ≡ (nat_eq x id.0 || mark_of (map step_of steps.now) marks.old x) }
+    ensures { MarksMore (map step_of steps.now) (λ x. nat_eq x id.0) marks.old marks.new }
 {
     marks[place_of(steps, id)] = true;
 }
@@ -27,7 +27,7 @@ fn mark_chain(marks: &mut [bool], steps: &[StoredStep], chain: &[Step])
     requires rising { AreRising (map step_of steps.now) }
     requires lengths { length marks.old ≡ length steps.now }
     requires stand { All (λ s. HasId (map step_of steps.now) s.antecedent.0) chain.now }
-    ensures { (x : ℕ) → mark_of (map step_of steps.now) marks.new x ≡ (list_any (λ s. nat_eq x s.antecedent.0) chain.now || mark_of (map step_of steps.now) marks.old x) }
+    ensures { MarksMore (map step_of steps.now) (λ x. list_any (λ s. nat_eq x s.antecedent.0) chain.now) marks.old marks.new }
 {
     for step in chain {
         mark(marks, steps, step.antecedent);
@@ -39,7 +39,7 @@ fn mark_antecedents(marks: &mut [bool], steps: &[StoredStep], source: &StoredOri
     requires rising { AreRising (map step_of steps.now) }
     requires lengths { length marks.old ≡ length steps.now }
     requires stand { All (HasId (map step_of steps.now)) (antecedents (origin_of source.now)) }
-    ensures { (x : ℕ) → mark_of (map step_of steps.now) marks.new x ≡ (list_any (nat_eq x) (antecedents (origin_of source.now)) || mark_of (map step_of steps.now) marks.old x) }
+    ensures { MarksMore (map step_of steps.now) (λ x. list_any (nat_eq x) (antecedents (origin_of source.now))) marks.old marks.new }
 {
     if let StoredOrigin::Chain(first, chain) = source {
         mark_chain(marks, steps, chain.as_slice());

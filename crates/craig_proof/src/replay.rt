@@ -4,7 +4,7 @@ ghost use Rattle.std.specs.Option.{ForSome};
 ghost use Rattle.craig_base.specs.Clauses.{IsNormal};
 ghost use Rattle.craig_spec.specs.Chain.{Told, AreRising, EachStands, StandsOn, IsAbove, IsUnforgotten, antecedents, nothing_told};
 ghost use Rattle.craig_spec.specs.Needed.{IsClosed, IsOriginal, unforgotten};
-ghost use Rattle.craig_proof.specs.NeededMarks.{last_id, mark_of};
+ghost use Rattle.craig_proof.specs.NeededMarks.{TellsMarkedSteps, mark_of};
 ghost use Rattle.craig_proof.specs.StoredSteps.{OriginalsNormal, origin_of, step_of};
 ghost use Rattle.craig_proof.specs.Tracer.{Appends};
 
@@ -46,7 +46,7 @@ pub(crate) fn tell_marked<T: Tracer>(
     requires normal { OriginalsNormal (map step_of steps.now) }
     requires closed { IsClosed (map step_of steps.now) (mark_of (map step_of steps.now) marks.now) }
     requires nothing { ForSome (T.told into.old) (λ t. t ≡ nothing_told) }
-    ensures told { OnOk result (ForSome (T.told into.old) (λ _. (u : Told) × (T.told into.new ≡ Some u) × (u.steps ≡ map unforgotten (filter (λ s. mark_of (map step_of steps.now) marks.now s.id) (map step_of steps.now))) × (u.greatest ≡ last_id u.steps))) }
+    ensures told { OnOk result (TellsMarkedSteps (map step_of steps.now) marks.now (T.told into.old) (T.told into.new)) }
     ensures tells { is_some (T.told into.new) ≡ is_some (T.told into.old) }
     ensures kept { T.kept into.new ≡ T.kept into.old }
 {

@@ -44,7 +44,7 @@ variable_value-found [] v e apart found = absurd (let no : None ≡ Some e = fou
 variable_value-found (f ∷ t) v e apart found =
     found-step (eqb f.literal.var v) f t v e apart refl found (variable_value-found t v e (λ i j d before within. apart (suc i) (suc j) d (omega arith) (omega arith)))
 
-signs : (b value : Bool) → value ≡ not b → cond b (not value) value ≡ true
+pub signs : (b value : Bool) → value ≡ not b → cond b (not value) value ≡ true
 signs true value is = rw is refl
 signs false value is = is
 

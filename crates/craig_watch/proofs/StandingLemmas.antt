@@ -7,6 +7,7 @@ use Rattle.std.proofs.lemmas.List.Elements.{All-push, All-append, All-contains, 
 use Rattle.std.proofs.Math.Seq.{take-suc}
 use Rattle.craig_spec.specs.Literal.{Literal, Clause}
 use Rattle.craig_base.specs.Arena.{ArenaView, LiveClause, IsArena, clause_of, OnlyReorders}
+use Rattle.craig_base.proofs.ReorderLemmas.{OnlyReorders-refl}
 use Rattle.craig_watch.specs.declared.trail_entry.TrailEntry.{TrailEntry}
 use Rattle.craig_watch.specs.declared.value.Value.{Value}
 use Rattle.craig_watch.specs.declared.value.Value.TheVariants.{False, Free}
@@ -73,14 +74,6 @@ settled-second t c i x (Some l) b v apart within is h b_is some_is v_is free =
 pub all-false : (t : Trail) (c : Clause) (i : ℕ) (free : Option Literal) → HasSeen t (take i c) free → free ≡ None → length c ≤ i → All (IsFalse t) c
 all-false t c i free h none past = subst (All (IsFalse t)) (take_all i c past) (subst (HasSeen t (take i c)) none h)
 
--- the same arena
-pub reordered-none : (a : ArenaView) → OnlyReorders a a
-reordered-none a = record {
-  given = refl;
-  stays = λ id c is. (c, is, record { literals = λ l. (λ h. h, λ h. h); flags = refl });
-  stood = λ id c is. (c, is, record { literals = λ l. (λ h. h, λ h. h); flags = refl });
-}
-
 -- nothing was added
 pub AddsForced-none : (h : HeldView) → AddsForced h h
 AddsForced-none h = record {
@@ -107,7 +100,7 @@ AddsForced-twice old mid new one two =
 -- clauses keep even the order of their literals
 pub IsLengthened-forced : (old new : HeldView) → AddsForced old new → IsLengthened old new
 IsLengthened-forced old new h = record {
-  clauses = subst (OnlyReorders old.arena) (sym (ap (λ (g : HeldView). g.arena) h.trail)) (reordered-none old.arena);
+  clauses = subst (OnlyReorders old.arena) (sym (ap (λ (g : HeldView). g.arena) h.trail)) (OnlyReorders-refl old.arena);
   vars = ap (λ (g : HeldView). g.vars) h.trail;
   present = ap (λ (g : HeldView). g.level) h.trail;
   dead = ap (λ (g : HeldView). g.dead) h.trail;

@@ -1,6 +1,6 @@
 -- A tracer that interpolates at one cut.
-use Rattle.std.specs.Prelude.{ℕ, ◌≤◌, Bool, List}
-use Rattle.craig_spec.specs.Chain.{Told}
+use Rattle.std.specs.Prelude.{ℕ, ◌≤◌, Bool, false, List}
+use Rattle.craig_spec.specs.Chain.{Told, nothing_told}
 use Rattle.craig_spec.specs.PartialInterpolant.{Label}
 use Rattle.craig_label.specs.Sides.{SidesView}
 use Rattle.craig_aig.specs.declared.node.Node.{Node}
@@ -35,6 +35,10 @@ pub record CutTracerView (S : Type 0) : Type 0 where
   pub system : S
   -- whether a call wanted memory in vain, after which each further one that can say so is refused
   pub dead : Bool
+
+-- a tracer that was told nothing, over an arena with these nodes
+abbrev pub new_tracer : {S : Type 0} → List Node → SidesView → ℕ → S → CutTracerView S
+new_tracer nodes sides cut system = record { told = nothing_told; nodes = nodes; older = nodes; sides = sides; cut = cut; system = system; dead = false }
 
 -- the setting of a tracer whose system has these labels
 abbrev pub setting : {S : Type 0} → (ℕ → Label) → CutTracerView S → Setting

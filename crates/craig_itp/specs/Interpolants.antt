@@ -13,6 +13,7 @@ use Rattle.craig_aig.specs.Cones.{cone}
 use Rattle.craig_aig.specs.Conjunctions.{constant_edge}
 use Rattle.craig_aig.specs.declared.node.Node.{Node}
 use Rattle.craig_system.specs.Rules.{labelling}
+use Rattle.craig_itp.specs.CutTracer.{Setting}
 
 -- the variable was noted in the part, or in parts before and after it
 abbrev pub Spans : SidesView → ℕ → ℕ → Type 0
@@ -38,6 +39,10 @@ NeededHaveParts parts steps root = (step : ToldStep) (part : ℕ) → Contains s
 abbrev pub HasPartialValue : SidesView → ℕ → (ℕ → Label) → List ToldStep → ℕ → List Node → Edge → Type 0
 HasPartialValue sides cut marks steps id nodes e = (s : Assignment) → edge_value s nodes e ≡ partial_interpolant (labelling sides cut marks) steps id s
 
+-- the same at the cut of a tracer and by its labels
+abbrev pub HasValueAt : Setting → List ToldStep → ℕ → List Node → Edge → Type 0
+HasValueAt at steps id nodes e = HasPartialValue at.sides at.cut at.marks steps id nodes e
+
 -- each variable that the edge reaches occurs on both sides of the cut
 abbrev pub HasSharedInputs : SidesView → ℕ → List Node → Edge → Type 0
 HasSharedInputs sides cut nodes e = (x : ℕ) → Contains (cone nodes e) x → side_at sides cut x ≡ Shared
@@ -50,6 +55,10 @@ pub record IsInterpolant (sides : SidesView) (cut : ℕ) (marks : ℕ → Label)
   pub value : HasPartialValue sides cut marks steps root nodes e
   -- each variable that it reaches is shared
   pub inputs : HasSharedInputs sides cut nodes e
+
+-- the same at the cut of a tracer and by its labels
+abbrev pub IsInterpolantAt : Setting → List ToldStep → ℕ → List Node → Edge → Type 0
+IsInterpolantAt at steps root nodes e = IsInterpolant at.sides at.cut at.marks steps root nodes e
 
 -- there is an interpolant for each cut, from 0 to the number of parts, all of the one refutation
 pub record AreInterpolants (sides : SidesView) (marks : ℕ → Label) (steps : List ToldStep) (root : ℕ) (nodes : List Node) (edges : List Edge) : Type 0 where

@@ -12,6 +12,8 @@ use Rattle.craig_aig.specs.Growth.{KeepsEdges}
 use Rattle.craig_aig.specs.Values.{edge_value}
 use Rattle.craig_aig.specs.declared.node.Node.{Node}
 use Rattle.craig_itp.specs.declared.step_edge.StepEdge.{StepEdge}
+use Rattle.craig_system.specs.Rules.{labelling}
+use Rattle.craig_label.specs.Sides.{SidesView}
 
 -- one of the steps has the id
 abbrev pub HasEdge : List StepEdge → ℕ → Type 0
@@ -43,6 +45,10 @@ pub record IsChainEdge (label : ℕ → Label) (edges : List StepEdge) (old : Li
   pub value : (s : Assignment) (value : ℕ → Bool) → ((step : StepEdge) → Contains edges step → edge_value s old step.edge ≡ value step.id.0) → edge_value s nodes e ≡ chain_value label s value (value first) rest
   -- its variables
   pub inputs : (x : ℕ) → Contains (cone nodes e) x → (label x ≡ AB) ⊎ IsEdgeReached edges old x
+
+-- the same by the labels of a system at a cut
+abbrev pub IsChainEdgeAt : SidesView → ℕ → (ℕ → Label) → List StepEdge → List Node → ℕ → List ChainStep → List Node → Edge → Type 0
+IsChainEdgeAt sides cut marks edges old first rest nodes e = IsChainEdge (labelling sides cut marks).label edges old first rest nodes e
 
 -- the variable is one of an original, and labelled as one of the other side
 pub record Crosses (l : Labelling) (steps : List ToldStep) (x : ℕ) : Type 0 where

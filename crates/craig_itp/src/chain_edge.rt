@@ -4,7 +4,7 @@ ghost use Rattle.craig_aig.specs.Arenas.{IsAig};
 ghost use Rattle.craig_aig.specs.Growth.{ArenaGrows};
 ghost use Rattle.craig_system.specs.Rules.{labelling};
 ghost use Rattle.craig_proof.specs.Tracer.{chain_of};
-ghost use Rattle.craig_itp.specs.StepEdges.{HasEdge, IsLeafEdge, IsChainEdge};
+ghost use Rattle.craig_itp.specs.StepEdges.{HasEdge, IsLeafEdge, IsChainEdgeAt};
 
 use crate::step_edge::{StepEdge, known_edge};
 use craig_aig::{Aig, Edge};
@@ -52,7 +52,7 @@ pub(crate) fn chain_edge<S: System>(
     requires first { HasEdge edges.now first.0 }
     requires rest { All (λ s. HasEdge edges.now s.antecedent.0) rest.now }
     ensures within { IfOk result (λ e. e.place < length aig.new) }
-    ensures chain { IfOk result (IsChainEdge (labelling sides.now cut (S.marks system.now)).label edges.now aig.old first.0 (chain_of rest.now) aig.new) }
+    ensures chain { IfOk result (IsChainEdgeAt sides.now cut (S.marks system.now) edges.now aig.old first.0 (chain_of rest.now) aig.new) }
     ensures grows { ArenaGrows aig.old aig.new }
 {
     let mut edge = known_edge(edges, first);

@@ -7,8 +7,8 @@ ghost use Rattle.craig_spec.specs.Chain.{Told, IsAbove, IsUnforgotten, ChainOk, 
 ghost use Rattle.craig_spec.specs.Needed.{Reclaims};
 ghost use Rattle.craig_proof.specs.Tracer.{chain_of, original_step, derived_step, Appends};
 ghost use Rattle.craig_aig.specs.Growth.{ArenaGrows};
-ghost use Rattle.craig_itp.specs.CutTracer.{Setting, setting};
-ghost use Rattle.craig_itp.specs.Interpolants.{AreNoted, HasPartialValue, HasSharedInputs};
+ghost use Rattle.craig_itp.specs.CutTracer.{Setting, new_tracer, setting};
+ghost use Rattle.craig_itp.specs.Interpolants.{AreNoted, HasSharedInputs, HasValueAt};
 
 use crate::chain_edge::{chain_edge, leaf_edge};
 use crate::step_edge::{StepEdge, edge_of};
@@ -61,7 +61,7 @@ impl<'a, S: System> CutTracer<'a, S> {
         system: &'a S,
     ) -> CutTracer<'a, S>
         requires { cut ≤ sides.now.parts }
-        ensures { result ≡ record { told = nothing_told; nodes = aig; older = aig; sides = sides.now; cut = cut; system = system.now; dead = false } }
+        ensures { result ≡ new_tracer aig sides.now cut system.now }
     {
         let older = aig.level();
         CutTracer {
@@ -82,7 +82,7 @@ impl<'a, S: System> CutTracer<'a, S> {
     pub fn edge(&self, id: ClauseId) -> Option<Edge>
         ensures none { (result ≡ None) ↔ (clause_told self.now.told.steps id.0 ≡ None) }
         ensures within { IfSome result (λ e. e.place < length self.now.nodes) }
-        ensures value { IfSome result (HasPartialValue self.now.sides self.now.cut (S.marks self.now.system) self.now.told.steps id.0 self.now.nodes) }
+        ensures value { IfSome result (HasValueAt (setting (S.marks self.now.system) self.now) self.now.told.steps id.0 self.now.nodes) }
         ensures inputs { AreNoted self.now.sides self.now.told.steps → IfSome result (HasSharedInputs self.now.sides self.now.cut self.now.nodes) }
     {
         self.store.each_clause_follows();

@@ -3,7 +3,7 @@ ghost use Rattle.std.specs.Prelude.{◌≡◌, ◌<◌, ◌≤◌, [], Some, len
 ghost use Rattle.craig_spec.specs.Chain.{IsUnforgotten, clause_told, nothing_told};
 ghost use Rattle.craig_aig.specs.Growth.{ArenaGrows};
 ghost use Rattle.craig_itp.specs.CutTracer.{setting};
-ghost use Rattle.craig_itp.specs.Interpolants.{AreInterpolants, IsInterpolant, NeededAreNoted};
+ghost use Rattle.craig_itp.specs.Interpolants.{AreInterpolants, IsInterpolant, IsInterpolantAt, NeededAreNoted};
 
 use crate::{CutTracer, Edges};
 use craig_aig::{Aig, Edge};
@@ -23,7 +23,7 @@ fn replayed_edge<S: System>(
     requires root { IsUnforgotten store.now.told.steps root.0 }
     requires nothing { tracer.old.told ≡ nothing_told }
     requires noted { NeededAreNoted tracer.old.sides store.now.told.steps root.0 }
-    ensures interpolant { IfOk result (IsInterpolant tracer.old.sides tracer.old.cut (S.marks tracer.old.system) store.now.told.steps root.0 tracer.new.nodes) }
+    ensures interpolant { IfOk result (IsInterpolantAt (setting (S.marks tracer.old.system) tracer.old) store.now.told.steps root.0 tracer.new.nodes) }
     ensures kept { setting (S.marks tracer.new.system) tracer.new ≡ setting (S.marks tracer.old.system) tracer.old }
 {
     craig_proof::laws::needed_part_stands();

@@ -5,10 +5,7 @@ use Rattle.std.proofs.lemmas.List.{get_or-drop, get_or-map, length-drop, length-
 use Rattle.std.proofs.lemmas.List.Elements.{All-drop, All-map, All-same, All-take}
 use Rattle.craig_spec.specs.Literal.{Literal}
 use Rattle.craig_watch.specs.declared.trail_entry.TrailEntry.{TrailEntry}
-use Rattle.craig_watch.specs.Trail.{Trail, IsAssigned, entry_of}
-
-any_entry : TrailEntry
-any_entry = record { literal = record { var = 0; negated = false }; level = 0; reason = None }
+use Rattle.craig_watch.specs.Trail.{Trail, IsAssigned, any_entry, entry_of}
 
 -- the entry at each place is that of its variable
 abbrev pub HasEntry : Trail → ℕ → Type 0

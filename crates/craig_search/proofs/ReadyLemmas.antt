@@ -8,6 +8,7 @@ use Rattle.craig_watch.specs.declared.value.Value.TheVariants.{True, False, Free
 use Rattle.craig_watch.specs.Trail.{Trail, IsAssigned, entry_of, part_up_to, value_beside, value_under}
 use Rattle.craig_watch.specs.Held.{HeldView, IsComplete, IsConsistent}
 use Rattle.craig_order.specs.Order.{OrderView, CountsAsBefore, IsFree, IsGivenBack, is_given_back}
+use Rattle.craig_watch.proofs.TrailLemmas.{entry_of-free}
 use Rattle.craig_search.specs.Leaves.{IsReady}
 use Rattle.craig_search.specs.Verdict.{IsFound}
 
@@ -59,18 +60,8 @@ assigned-from_not_free h v not_free low = elim (entry-cases (entry_of h.trail v)
   | inr found ↦ rw found.1 refl
 ]
 
-beside-cases : (a b : Bool) → cond a (cond b True False) (cond b False True) ≢ Free
-beside-cases true true e = let no : True ≡ Free = e in cc
-beside-cases true false e = let no : False ≡ Free = e in cc
-beside-cases false true e = let no : False ≡ Free = e in cc
-beside-cases false false e = let no : True ≡ Free = e in cc
-
-free-cases : (o : Option TrailEntry) (l : Literal) → option_map_or (λ e. value_beside e.literal l) o Free ≡ Free → is_some o ≡ true → ⊥
-free-cases None l free some = let no : false ≡ true = some in cc
-free-cases (Some e) l free some = beside-cases e.literal.negated l.negated free
-
 pub not_free-assigned : (t : Trail) (l : Literal) → IsAssigned t l.var → value_under t l ≡ Free → ⊥
-not_free-assigned t l some free = free-cases (entry_of t l.var) l free some
+not_free-assigned t l some free = let no : false ≡ true = sym (ap (λ (o : Option TrailEntry). is_some o) (entry_of-free t l free)) ∙ some in cc
 
 -- where no variable is free, propagation that is complete has found a model
 pub IsFound-complete : (h : HeldView) → IsConsistent h → IsComplete h.arena h.trail → ((v : ℕ) → ¬ IsFree h v) → IsFound h []

@@ -3,3 +3,5 @@ pub mod Leaves
 pub mod Tells
 pub mod Search
 pub mod Searching
+pub mod Levels
+pub mod LawsOfTelling

@@ -1,10 +1,10 @@
 //! Going back to an earlier level, with the variables that become free given back to the order.
-ghost use Rattle.std.specs.Prelude.{◌≡◌, ℕ, ◌<◌, ◌≤◌, true, All, length, slice_index_or};
-ghost use Rattle.craig_watch.specs.declared.trail_entry.TrailEntry.{TrailEntry};
+ghost use Rattle.std.specs.Prelude.{◌≡◌, ℕ, ◌<◌, ◌≤◌, true, All, length};
 ghost use Rattle.craig_watch.specs.Trail.{part_up_to};
 ghost use Rattle.craig_watch.specs.Held.{IsConsistent};
 ghost use Rattle.craig_order.specs.Order.{is_given_back};
 ghost use Rattle.craig_search.specs.Leaves.{IsReady};
+ghost use Rattle.craig_search.specs.Levels.{AreAboveFrom, AreUpToBefore};
 
 use craig_base::Lit;
 use craig_order::Order;
@@ -43,8 +43,8 @@ fn give_back_each(order: &mut Order, lits: &[Lit])
 /// The place of the first literal on the trail of a level above this one, or the number of the literals.
 fn first_above(held: &Held, level: u32) -> usize
     ensures within { result ≤ length held.now.trail }
-    ensures upto { (k : ℕ) (d : TrailEntry) → k < result → (slice_index_or held.now.trail k d).level ≤ level }
-    ensures above { (k : ℕ) (d : TrailEntry) → result ≤ k → k < length held.now.trail → level < (slice_index_or held.now.trail k d).level }
+    ensures upto { AreUpToBefore result level held.now.trail }
+    ensures above { AreAboveFrom result level held.now.trail }
 {
     craig_watch::laws::entries_have_places();
     craig_watch::laws::levels_rise();

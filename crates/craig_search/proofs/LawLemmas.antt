@@ -15,7 +15,7 @@ use Rattle.craig_proof.proofs.PartLemmas.{clause_told-found, one_step}
 use Rattle.craig_watch.specs.Held.{HeldView, held_clause}
 use Rattle.craig_search.specs.declared.verdict.Verdict.{Verdict}
 use Rattle.craig_search.specs.declared.verdict.Verdict.TheVariants.{Model, Failed, Limit}
-use Rattle.craig_search.specs.Tells.{IsRoot, IsStillTold, IsUnitId, IsUnitStep, Tells, TellsVerdict, WasTold}
+use Rattle.craig_search.specs.Tells.{IsRoot, IsStillTold, IsUnitId, IsUnitStep, TellsVerdict, WasTold}
 use Rattle.craig_search.specs.Verdict.{AreFirstPlaces, Assumptions, at_places}
 
 -- what was told before is told still, whatever the verdict

@@ -1,11 +1,11 @@
 -- What each step of a search leaves of the clauses of its start.
-use Rattle.std.proofs.Common.{◌≡◌, inl, inr, ℕ, ◌+◌, ◌<◌, ◌≤◌, true, List, Contains, Option, Some, None, refl, sym, ap, subst, ◌∙◌, arith}
+use Rattle.std.proofs.Common.{◌≡◌, inl, inr, ℕ, ◌+◌, ◌<◌, ◌≤◌, true, List, Some, None, refl, sym, ap, subst, ◌∙◌, arith}
 use Rattle.craig_spec.specs.Literal.{Clause}
-use Rattle.craig_spec.specs.Chain.{ChainOk, ChainStep, Derived, antecedents}
-use Rattle.craig_spec.specs.Truth.{Assignment, IsModel, clause_value}
+use Rattle.craig_spec.specs.Chain.{ChainOk, ChainStep}
+use Rattle.craig_spec.specs.Truth.{clause_value}
 use Rattle.craig_spec.specs.Occurs.{occurs_in_clause}
 use Rattle.craig_base.specs.declared.flags.Flags.{Flags}
-use Rattle.craig_base.specs.Arena.{ArenaView, FlaggedClause, IsReordered, ChangesOnly, OnlyReorders, clause_at, clauses_of, literals_of, with_id}
+use Rattle.craig_base.specs.Arena.{FlaggedClause, ChangesOnly, OnlyReorders, clause_at, clauses_of, with_id}
 use Rattle.craig_watch.specs.Held.{HeldView, IsConsistent, held_clause}
 use Rattle.craig_search.specs.Leaves.{Leaves}
 use Rattle.craig_spec.proofs.ClauseLemmas.{SameLiterals-refl, SameLiterals-sym, SameLiterals-trans, clause_value-same, occurs_in_clause-same}

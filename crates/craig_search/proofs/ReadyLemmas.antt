@@ -1,11 +1,11 @@
 -- The order has every free variable, and a trail without free variables is a model.
 use Rattle.std.proofs.Common.{◌≡◌, ◌≢◌, ◌⊎◌, inl, inr, ℕ, ◌<◌, ◌≤◌, Bool, true, false, cond, eqb, [], ◌∷◌, ◌++◌, length, get_or, Option, Some, None, refl, sym, ap, subst, ◌∙◌, arith, eq-eqb}
-use Rattle.std.specs.Option.{is_some, option_map_or}
+use Rattle.std.specs.Option.{is_some}
 use Rattle.std.proofs.lemmas.Bool.{cases_lt, or_left, or_right}
 use Rattle.craig_spec.specs.Literal.{Literal}
 use Rattle.craig_watch.specs.declared.trail_entry.TrailEntry.{TrailEntry}
-use Rattle.craig_watch.specs.declared.value.Value.TheVariants.{True, False, Free}
-use Rattle.craig_watch.specs.Trail.{Trail, IsAssigned, entry_of, part_up_to, value_beside, value_under}
+use Rattle.craig_watch.specs.declared.value.Value.TheVariants.{Free}
+use Rattle.craig_watch.specs.Trail.{Trail, IsAssigned, entry_of, part_up_to, value_under}
 use Rattle.craig_watch.specs.Held.{HeldView, IsComplete, IsConsistent}
 use Rattle.craig_order.specs.Order.{OrderView, CountsAsBefore, IsFree, IsGivenBack, is_given_back}
 use Rattle.craig_watch.proofs.TrailLemmas.{entry_of-free}

@@ -1,5 +1,5 @@
 -- What a search keeps, through each of its steps.
-use Rattle.std.proofs.Common.{◌≡◌, ℕ, Option}
+use Rattle.std.proofs.Common.{ℕ, Option}
 use Rattle.craig_spec.specs.Chain.{Told}
 use Rattle.craig_watch.specs.Trail.{Trail}
 use Rattle.craig_watch.specs.Held.{HeldView, IsConsistent, IsLengthened}

@@ -1,10 +1,10 @@
 -- What a search tells a tracer.
-use Rattle.std.proofs.Common.{◌≡◌, inl, inr, ℕ, List, [], ◌∷◌, ◌++◌, Contains, Option, Some, None, IsSome, refl, sym, subst, ◌∙◌, arith}
+use Rattle.std.proofs.Common.{◌≡◌, inl, inr, ℕ, List, [], ◌∷◌, Option, Some, IsSome, refl, sym, subst, arith}
 use Rattle.std.specs.Option.{option_map}
 use Rattle.std.proofs.lemmas.Bool.{cases_lt}
 use Rattle.std.proofs.lemmas.List.Elements.{Contains-append_left, Contains-push_cases}
 use Rattle.craig_spec.specs.Literal.{Clause}
-use Rattle.craig_spec.specs.Chain.{ChainOk, ChainStep, Derived, Told, ToldStep, antecedents, with_step}
+use Rattle.craig_spec.specs.Chain.{ChainOk, Told, ToldStep, with_step}
 use Rattle.craig_spec.proofs.ToldLemmas.{IsUnforgotten-pushed}
 use Rattle.craig_base.specs.Arena.{FlaggedClause, clause_at}
 use Rattle.craig_proof.specs.Tracer.{Appends, chain_of, derived_step}

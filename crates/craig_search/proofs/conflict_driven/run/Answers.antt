@@ -1,9 +1,9 @@
-use Rattle.std.proofs.Common.{◌≡◌, ℕ, ◌+◌, true, false, Option, None, IfSome, Ok, refl, ap, sym, subst, ◌∙◌, arith}
+use Rattle.std.proofs.Common.{◌≡◌, ℕ, ◌+◌, Option, None, IfSome, refl, ap, sym, subst, ◌∙◌, arith}
 use Rattle.craig_base.specs.declared.clause_id.ClauseId.{ClauseId}
 use Rattle.craig_proof.specs.Covers.{IsCovering}
 use Rattle.craig_watch.specs.declared.trail_entry.TrailEntry.{TrailEntry}
 use Rattle.craig_watch.specs.Held.{HeldView, IsFalsified, held_clause}
-use Rattle.craig_search.specs.Searching.{IsSearching, IsUnderWay}
+use Rattle.craig_search.specs.Searching.{IsSearching}
 use Rattle.craig_search.proofs.CoversLemmas.{covers-reordered}
 use Rattle.craig_search.proofs.JournalLemmas.{journal-bounded}
 use Rattle.craig_search.proofs.MeasureLemmas.{longer-decided, turns-decided, turns-learnt}

@@ -1,4 +1,4 @@
-use Rattle.std.proofs.Common.{ℕ, List, Some, None, ap, sym, subst, ◌∙◌}
+use Rattle.std.proofs.Common.{ℕ, List, ap, sym, subst, ◌∙◌}
 use Rattle.craig_watch.specs.Held.{HeldView, held_clause}
 use Rattle.craig_search.specs.Searching.{IsOutcome}
 use Rattle.craig_search.specs.Tells.{IsRoot, IsUnitId, Tells}

@@ -1,14 +1,18 @@
 -- What the steps of a refutation are, and which of a session's steps they are.
-use Rattle.std.specs.Prelude.{◌≡◌, ◌≢◌, ◌⊎◌, ◌↔◌, ℕ, ◌+◌, ◌<◌, ◌≤◌, Bool, true, List, [], length, take, map, filter, Option, Some, slice_get, Contains}
+use Rattle.std.specs.Prelude.{◌≡◌, ◌≢◌, ◌⊎◌, ◌↔◌, ℕ, ◌+◌, ◌<◌, ◌≤◌, Bool, true, List, [], length, take, map, filter, Option, Some, slice_get, Contains, Ok, ℤ}
 use Rattle.craig_spec.specs.Chain.{ChainStep, ChainOk, Derived, IsResolvent, Original, SameLiterals, ToldStep, antecedents, clause_told}
 use Rattle.craig_spec.specs.Circuit.{Circuit, circuit_value}
-use Rattle.craig_spec.specs.Cut.{PartClause}
-use Rattle.craig_spec.specs.DrawnFromOneRefutation.{occurrence_labelling}
+use Rattle.craig_spec.specs.Cut.{PartClause, PartLiteral}
+use Rattle.craig_spec.specs.DrawnFromOneRefutation.{occurrence_labelling, DrawnFromOneRefutation, IsRefutationOf, MarkedLiterals}
 use Rattle.craig_spec.specs.Literal.{Clause, Literal, negation}
 use Rattle.craig_spec.specs.Needed.{IsNeeded, unforgotten}
 use Rattle.craig_spec.specs.PartialInterpolant.{Label, origin_value}
 use Rattle.craig_spec.specs.Truth.{Assignment, clause_value}
 use Rattle.craig_top.specs.Named.{named_step}
+use Rattle.craig_script.specs.declared.command.Command.TheVariants.{Solve}
+use Rattle.craig_top.specs.GivenState.{State}
+use Rattle.craig_top.specs.LastRefutation.{IsOfLastRoot, IsRefutationBy, ReadingIsByLastRoot, SessionView}
+use Rattle.craig_top.specs.Reply.{assumptions_of}
 
 -- the clauses clash on the literal, and on no other
 abbrev pub ClashOnlyOn : Literal → Clause → Clause → Type 0
@@ -81,3 +85,37 @@ AreInOrder names kept steps = (p : ℕ → Bool) × (steps ≡ map (λ (k : Told
 -- the root is an empty clause that is kept
 abbrev pub IsEmptyOne : List ToldStep → Option ℕ → Type 0
 IsEmptyOne kept root = (k : ToldStep) × Contains kept k × (root ≡ Some k.id) × (k.literals ≡ [])
+
+-- the literals of each system are by the rules of its labels
+abbrev pub AllAreByTheRules : List PartClause → ℕ → List ToldStep → ℕ → Circuit → List MarkedLiterals → Type 0
+AllAreByTheRules clauses parts steps root c systems = (system : MarkedLiterals) → Contains systems system → AreByTheRules clauses parts steps root c system.marks system.literals
+
+-- the text refutes the clauses of the state and these literals, by the last root of the session
+abbrev pub IsRefutingBy : SessionView → State → List (ℕ × ℤ) → List ℕ → Type 0
+IsRefutingBy view state pairs text = IsRefutationBy view.names view.steps view.root state (assumptions_of pairs) text
+
+-- what is said holds of each chain: of the clauses of its ids, the literals that it gives, its first id and the steps after it
+abbrev pub EachChain : ((ℕ → Option Clause) → Clause → ℕ → List ChainStep → Type 0) → Type 0
+EachChain Says = (clause_of : ℕ → Option Clause) (literals : Clause) (first : ℕ) (rest : List ChainStep) → ChainOk clause_of literals first rest → Says clause_of literals first rest
+
+-- what is said holds of each refutation: of the clauses refuted, the steps, and the id of the last one
+abbrev pub EachRefutation : (List PartClause → List ToldStep → ℕ → Type 0) → Type 0
+EachRefutation Says = (clauses : List PartClause) (steps : List ToldStep) (root : ℕ) → IsRefutationOf clauses steps root → Says clauses steps root
+
+-- what is said holds of all literals drawn from one refutation: of the clauses, the circuit, the steps, their root, and the systems of literals
+abbrev pub EachDrawn : (List PartClause → ℕ → Circuit → List ToldStep → ℕ → List MarkedLiterals → Type 0) → Type 0
+EachDrawn Says =
+    (clauses : List PartClause) (parts : ℕ) (c : Circuit) (systems : List MarkedLiterals) (drawn : DrawnFromOneRefutation clauses parts c systems)
+    → Says clauses parts c drawn.steps drawn.root systems
+
+-- what is said holds of all steps of the last root of a session: of its names, its kept steps, its last root, the steps, and their root
+abbrev pub EachLastRoot : (List ℕ → List ToldStep → Option ℕ → List ToldStep → ℕ → Type 0) → Type 0
+EachLastRoot Says = (names : List ℕ) (kept : List ToldStep) (last : Option ℕ) (steps : List ToldStep) (root : ℕ) → IsOfLastRoot names kept last steps root → Says names kept last steps root
+
+-- what is said holds of the kept steps and the last root by which a text refutes
+abbrev pub EachRefutationBy : (List ToldStep → Option ℕ → Type 0) → Type 0
+EachRefutationBy Says = (names : List ℕ) (kept : List ToldStep) (last : Option ℕ) (state : State) (assumptions : List PartLiteral) (text : List ℕ) → IsRefutationBy names kept last state assumptions text → Says kept last
+
+-- what is said holds of each text that answers a solve by the last root of the session
+abbrev pub EachSolveByLastRoot : (SessionView → State → List (ℕ × ℤ) → List ℕ → Type 0) → Type 0
+EachSolveByLastRoot Says = (view : SessionView) (state : State) (pairs : List (ℕ × ℤ)) (text : List ℕ) → ReadingIsByLastRoot view state (Ok (Solve pairs)) text → Says view state pairs text

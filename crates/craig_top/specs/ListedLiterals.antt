@@ -2,6 +2,7 @@
 use Rattle.std.specs.Prelude.{◌≡◌, ◌↔◌, ℕ, ◌+◌, ◌<◌, List, Some, slice_get, Contains, IsTrue}
 use Rattle.craig_spec.specs.Literal.{Literal, Clause}
 use Rattle.craig_spec.specs.Truth.{Assignment, literal_value}
+use Rattle.craig_top.specs.ModelReply.{IsModelReply}
 
 -- some literal of the list is of the variable
 abbrev pub HasVariable : List Literal → ℕ → Type 0
@@ -26,3 +27,7 @@ EachHasOne clauses literals = (c : Clause) → Contains clauses c → (l : Liter
 -- the assignment makes each of the literals true
 abbrev pub MakesTrue : Assignment → List Literal → Type 0
 MakesTrue s literals = (l : Literal) → Contains literals l → IsTrue (literal_value s l)
+
+-- what is said holds of the clauses and the literals of each satisfiable reply
+abbrev pub EachModelReply : (List Clause → List Literal → Type 0) → Type 0
+EachModelReply Says = (clauses : List Clause) (literals : List Literal) → IsModelReply clauses literals → Says clauses literals

@@ -1,11 +1,15 @@
 -- Which bytes were taken of a source, and which replies a text is made of.
-use Rattle.std.specs.Prelude.{◌≡◌, ◌≢◌, ℕ, ◌≤◌, List, ◌++◌, length, take, Option, Some, slice_get}
+use Rattle.std.specs.Prelude.{◌≡◌, ◌≢◌, ℕ, ◌≤◌, List, ◌++◌, length, map, take, Option, Some, slice_get, ◌<◌}
 use Rattle.std.specs.List.{concat}
 use Rattle.craig_script.specs.declared.line.Line.{Line}
+use Rattle.craig_script.specs.Lines.{line_of, whole_lines}
 use Rattle.craig_top.specs.declared.status.Status.{Status}
 use Rattle.craig_top.specs.declared.status.Status.TheVariants.{Usage, ReadFault, WriteFault, TooLong}
-use Rattle.craig_top.specs.GivenState.{State, after}
+use Rattle.craig_top.specs.GivenState.{State, after, start}
 use Rattle.craig_top.specs.Reply.{Reply}
+use Rattle.craig_io.specs.Faults.{Rose}
+use Rattle.craig_top.specs.declared.settings.Settings.{Settings}
+use Rattle.craig_top.specs.Ending.{EndsDone, Promise}
 
 -- all bytes are those taken and then those that are left
 abbrev pub AreTakenBytes : (all : List ℕ) → (left : Option (List ℕ)) → (taken : List ℕ) → Type 0
@@ -40,3 +44,21 @@ IsBrokenOff state lines text =
 -- the status says neither that words were refused, nor that a read or a write failed, nor that the script is too long
 abbrev pub IsDoneOrNoMemory : Status → Type 0
 IsDoneOrNoMemory status = (status ≢ Usage) × (status ≢ ReadFault) × (status ≢ WriteFault) × (status ≢ TooLong)
+
+-- behind the bytes held stand the replies to the lines whose newlines were taken, those and no other
+abbrev pub TakenAreAnswered : State → (all : List ℕ) → (left : Option (List ℕ)) → (held : List ℕ) → (held_after : Option (List ℕ)) → Type 0
+TakenAreAnswered state all left held held_after = Takes all left (λ taken. StandsBehind held held_after (AreReplies state (map line_of (whole_lines taken))))
+
+-- in each run that ends with the status what is said holds of the bound, all bytes of its source, and those left in it
+abbrev pub RunsTake : Status → (ℕ → List ℕ → Option (List ℕ) → Type 0) → Type 0
+RunsTake status Says = (settings : Settings) (bound : ℕ) (all : List ℕ) (left before later : Option (List ℕ)) → Promise settings bound status (Some all) left before later → Says bound all left
+
+-- in each run that ends with the status what is said holds of the state before its first line, all bytes of its source, those left in it, and the bytes of its sink before and after the run
+abbrev pub RunsPut : Status → (State → List ℕ → Option (List ℕ) → List ℕ → Option (List ℕ) → Type 0) → Type 0
+RunsPut status Says = (settings : Settings) (bound : ℕ) (all held : List ℕ) (left later : Option (List ℕ)) → Promise settings bound status (Some all) left (Some held) later → Says (start settings) all left held later
+
+-- what is said holds of the status of each run of a told script below the bound of which no read and no write failed
+abbrev pub FaultlessRunsEnd : (Status → Type 0) → Type 0
+FaultlessRunsEnd Says =
+    (bound : ℕ) (status : Status) (all : List ℕ) (reads more_reads writes more_writes : ℕ) → EndsDone bound status (Some all) (Rose reads more_reads) (Rose writes more_writes)
+    → length all < bound → ¬ Rose reads more_reads → ¬ Rose writes more_writes → Says status

@@ -4,6 +4,7 @@ use Rattle.craig_spec.specs.Circuit.{Circuit, Output, circuit_cone, circuit_valu
 use Rattle.craig_spec.specs.Cut.{PartClause, PartLiteral}
 use Rattle.craig_spec.specs.Literal.{Literal}
 use Rattle.craig_spec.specs.Truth.{Assignment, clause_value, literal_value}
+use Rattle.craig_spec.specs.Sequence.{IsSequence}
 
 -- the assignment makes each clause of these parts true
 abbrev pub ClausesAreTrue : List PartClause → Assignment → (ℕ → Type 0) → Type 0
@@ -56,3 +57,7 @@ AreFirstOnes assumptions failed = (f : PartLiteral) → Contains failed f → (p
 -- the first places of two neighbours rise
 abbrev pub FirstPlacesRise : List PartLiteral → List PartLiteral → Type 0
 FirstPlacesRise assumptions failed = (i p q : ℕ) (f g : PartLiteral) → slice_get failed i ≡ Some f → slice_get failed (i + 1) ≡ Some g → IsFirstAt assumptions p f → IsFirstAt assumptions q g → p < q
+
+-- what is said holds of each sequence of interpolants: of its clauses, the number of their parts, and the literals of its circuit
+abbrev pub EachSequence : (List PartClause → ℕ → Circuit → List ℕ → Type 0) → Type 0
+EachSequence Says = (clauses : List PartClause) (parts : ℕ) (c : Circuit) (literals : List ℕ) → IsSequence clauses parts c literals → Says clauses parts c literals

@@ -1,14 +1,13 @@
 //! What the lines of a script are.
 
-ghost use Rattle.std.specs.Prelude.{◌≡◌, ◌≢◌, ℕ, ◌<◌, ◌≤◌, [], ◌∷◌, ◌++◌, List, Ok, Err, ℤ, Contains, codes, length, map};
+ghost use Rattle.std.specs.Prelude.{◌≡◌, ◌≢◌, ℕ, ◌<◌, ◌≤◌, [], ◌∷◌, ◌++◌, List, Ok, Err, Contains, codes, length, map};
 ghost use Rattle.std.specs.List.{flat_map};
 ghost use Rattle.craig_script.specs.declared.command.Command.{Command};
-ghost use Rattle.craig_script.specs.declared.command.Command.TheVariants.{Add, Solve};
 ghost use Rattle.craig_script.specs.declared.line.Line.TheVariants.{Overlong, Text};
 ghost use Rattle.craig_script.specs.declared.refusal.Refusal.TheVariants as refusal;
 ghost use Rattle.craig_script.specs.Lines.{last_part, line_of, script_lines, whole_lines};
 ghost use Rattle.craig_script.specs.Words.{words};
-ghost use Rattle.craig_top.specs.CommandLines.{AreInRange, add_words, solve_words};
+ghost use Rattle.craig_top.specs.CommandLines.{AreInRange, EachAddLine, EachSolveLine, add_words, solve_words};
 ghost use Rattle.craig_top.specs.GivenState.{State, reading};
 
 /// The bytes of a script are its lines, each with a newline behind it, and what comes after the last newline, which is
@@ -26,8 +25,8 @@ pub fn lines_of_a_script()
 /// A line that is read as an addition has the word `add`, the decimal forms of its part and of its literals, and 0. One
 /// that is read as a solve has the words `solve` and 0. No line of more than 1048576 bytes is read as a command.
 pub fn words_of_commands()
-    ensures add { (state : State) (bytes : List ℕ) (part : ℕ) (lits : List ℤ) → reading state (Text bytes) ≡ Ok (Add part lits) → (words bytes ≡ add_words part lits) × AreInRange state.parts part lits }
-    ensures solve { (state : State) (bytes : List ℕ) (pairs : List (ℕ × ℤ)) → reading state (Text bytes) ≡ Ok (Solve pairs) → (pairs ≡ []) × (words bytes ≡ solve_words) }
+    ensures add { EachAddLine (λ state bytes part lits. (words bytes ≡ add_words part lits) × AreInRange state.parts part lits) }
+    ensures solve { EachSolveLine (λ state bytes pairs. (pairs ≡ []) × (words bytes ≡ solve_words)) }
     ensures short { (state : State) (bytes : List ℕ) (c : Command) → reading state (Text bytes) ≡ Ok c → length bytes ≤ 1048576 }
     ensures overlong { (state : State) → reading state Overlong ≡ Err refusal.Overlong }
 {

@@ -1,17 +1,12 @@
 //! What the steps of a refutation are, and which steps of a session the interpolants of a reply are drawn from.
 
-ghost use Rattle.std.specs.Prelude.{◌≡◌, ◌⊎◌, ℕ, List, Option, Some, Ok, ℤ, Contains, map};
-ghost use Rattle.craig_spec.specs.Chain.{ChainOk, ChainStep, IsResolvent, ToldStep};
-ghost use Rattle.craig_spec.specs.Circuit.{Circuit};
-ghost use Rattle.craig_spec.specs.Cut.{PartClause, PartLiteral};
-ghost use Rattle.craig_spec.specs.DrawnFromOneRefutation.{DrawnFromOneRefutation, IsRefutationOf, MarkedLiterals};
+ghost use Rattle.std.specs.Prelude.{◌≡◌, ◌⊎◌, List, Some, map};
+ghost use Rattle.craig_spec.specs.Chain.{IsResolvent};
+ghost use Rattle.craig_spec.specs.DrawnFromOneRefutation.{IsRefutationOf};
 ghost use Rattle.craig_spec.specs.Literal.{Clause, Literal, negation};
 ghost use Rattle.craig_spec.specs.Truth.{IsUnsatisfiable};
-ghost use Rattle.craig_script.specs.declared.command.Command.TheVariants.{Solve};
-ghost use Rattle.craig_top.specs.DrawnSteps.{AreAlong, AreByTheRules, AreInOrder, AreNeededOnes, ClashOnlyOn, DerivedAreResolved, DerivedFollow, EndInTheEmptyClause, FollowsFrom, HasAllBut, HasNoOther, IdsRise, IsEmptyOne, OriginalsAreClauses, OriginalsAreNormal};
-ghost use Rattle.craig_top.specs.GivenState.{State};
-ghost use Rattle.craig_top.specs.LastRefutation.{IsOfLastRoot, IsRefutationBy, ReadingIsByLastRoot, SessionView};
-ghost use Rattle.craig_top.specs.Reply.{GivesModel, assumptions_of};
+ghost use Rattle.craig_top.specs.DrawnSteps.{AllAreByTheRules, AreAlong, AreInOrder, AreNeededOnes, ClashOnlyOn, DerivedAreResolved, DerivedFollow, EachChain, EachDrawn, EachLastRoot, EachRefutation, EachRefutationBy, EachSolveByLastRoot, EndInTheEmptyClause, FollowsFrom, HasAllBut, HasNoOther, IdsRise, IsEmptyOne, IsRefutingBy, OriginalsAreClauses, OriginalsAreNormal};
+ghost use Rattle.craig_top.specs.Reply.{GivesModel};
 
 /// Two clauses clash on the pivot of their resolvent alone. It has all their other literals and no more, and is true
 /// where both are.
@@ -26,20 +21,20 @@ pub fn resolvents()
 /// Along a chain stand the clause of its first id and a resolvent for each of its steps, and the last one has the
 /// literals that the chain gives.
 pub fn clauses_along_a_chain()
-    ensures { (clause_of : ℕ → Option Clause) (literals : Clause) (first : ℕ) (rest : List ChainStep) → ChainOk clause_of literals first rest → (along : List Clause) × AreAlong clause_of literals first rest along }
+    ensures { EachChain (λ clause_of literals first rest. (along : List Clause) × AreAlong clause_of literals first rest along) }
 {}
 
 /// The steps of a refutation stand by rising id. Each original has the literals of a clause of its part, without
 /// repeats and no two opposite ones. Each derived step has a chain over steps before it, and is true where those are.
 /// The last step is the empty clause, and so no assignment makes the clauses true.
 pub fn steps_of_a_refutation()
-    ensures rising { (clauses : List PartClause) (steps : List ToldStep) (root : ℕ) → IsRefutationOf clauses steps root → IdsRise steps }
-    ensures originals { (clauses : List PartClause) (steps : List ToldStep) (root : ℕ) → IsRefutationOf clauses steps root → OriginalsAreClauses clauses steps }
-    ensures normal { (clauses : List PartClause) (steps : List ToldStep) (root : ℕ) → IsRefutationOf clauses steps root → OriginalsAreNormal steps }
-    ensures derived { (clauses : List PartClause) (steps : List ToldStep) (root : ℕ) → IsRefutationOf clauses steps root → DerivedAreResolved steps }
-    ensures follow { (clauses : List PartClause) (steps : List ToldStep) (root : ℕ) → IsRefutationOf clauses steps root → DerivedFollow steps }
-    ensures last { (clauses : List PartClause) (steps : List ToldStep) (root : ℕ) → IsRefutationOf clauses steps root → EndInTheEmptyClause steps root }
-    ensures no_model { (clauses : List PartClause) (steps : List ToldStep) (root : ℕ) → IsRefutationOf clauses steps root → IsUnsatisfiable (map (λ p. p.clause) clauses) }
+    ensures rising { EachRefutation (λ clauses steps root. IdsRise steps) }
+    ensures originals { EachRefutation (λ clauses steps root. OriginalsAreClauses clauses steps) }
+    ensures normal { EachRefutation (λ clauses steps root. OriginalsAreNormal steps) }
+    ensures derived { EachRefutation (λ clauses steps root. DerivedAreResolved steps) }
+    ensures follow { EachRefutation (λ clauses steps root. DerivedFollow steps) }
+    ensures last { EachRefutation (λ clauses steps root. EndInTheEmptyClause steps root) }
+    ensures no_model { EachRefutation (λ clauses steps root. IsUnsatisfiable (map (λ p. p.clause) clauses)) }
 {
     craig_proof::laws::chain_follows();
     craig_proof::laws::told_clauses_follow();
@@ -48,8 +43,8 @@ pub fn steps_of_a_refutation()
 /// Literals that are drawn from one refutation have, at each cut between the outer ones and for each system, the value
 /// that the labelled rules give its root: whatever values meet the rules at each of its steps.
 pub fn values_from_one_refutation()
-    ensures one { (clauses : List PartClause) (parts : ℕ) (c : Circuit) (systems : List MarkedLiterals) (drawn : DrawnFromOneRefutation clauses parts c systems) → IsRefutationOf clauses drawn.steps drawn.root }
-    ensures values { (clauses : List PartClause) (parts : ℕ) (c : Circuit) (systems : List MarkedLiterals) (drawn : DrawnFromOneRefutation clauses parts c systems) (system : MarkedLiterals) → Contains systems system → AreByTheRules clauses parts drawn.steps drawn.root c system.marks system.literals }
+    ensures one { EachDrawn (λ clauses parts c steps root systems. IsRefutationOf clauses steps root) }
+    ensures values { EachDrawn (λ clauses parts c steps root systems. AllAreByTheRules clauses parts steps root c systems) }
 {
     craig_itp::laws::partial_values_by_steps();
 }
@@ -58,11 +53,11 @@ pub fn values_from_one_refutation()
 /// order and over the variables of the script. The last root is an empty clause among them. So is the reply to a line
 /// that is a solve, unless it gives a model.
 pub fn steps_of_the_last_root()
-    ensures last { (names : List ℕ) (kept : List ToldStep) (last : Option ℕ) (steps : List ToldStep) (root : ℕ) → IsOfLastRoot names kept last steps root → last ≡ Some root }
-    ensures needed { (names : List ℕ) (kept : List ToldStep) (last : Option ℕ) (steps : List ToldStep) (root : ℕ) → IsOfLastRoot names kept last steps root → AreNeededOnes names kept root steps }
-    ensures order { (names : List ℕ) (kept : List ToldStep) (last : Option ℕ) (steps : List ToldStep) (root : ℕ) → IsOfLastRoot names kept last steps root → AreInOrder names kept steps }
-    ensures empty { (names : List ℕ) (kept : List ToldStep) (last : Option ℕ) (state : State) (assumptions : List PartLiteral) (text : List ℕ) → IsRefutationBy names kept last state assumptions text → IsEmptyOne kept last }
-    ensures solve { (view : SessionView) (state : State) (pairs : List (ℕ × ℤ)) (text : List ℕ) → ReadingIsByLastRoot view state (Ok (Solve pairs)) text → GivesModel state pairs text ⊎ IsRefutationBy view.names view.steps view.root state (assumptions_of pairs) text }
+    ensures last { EachLastRoot (λ names kept last steps root. last ≡ Some root) }
+    ensures needed { EachLastRoot (λ names kept last steps root. AreNeededOnes names kept root steps) }
+    ensures order { EachLastRoot (λ names kept last steps root. AreInOrder names kept steps) }
+    ensures empty { EachRefutationBy (λ kept last. IsEmptyOne kept last) }
+    ensures solve { EachSolveByLastRoot (λ view state pairs text. GivesModel state pairs text ⊎ IsRefutingBy view state pairs text) }
 {}
 
 #[cfg(test)]

@@ -1,21 +1,17 @@
 //! What replies say, what their bytes are, and what a line does to the given state.
 
-ghost use Rattle.std.specs.Prelude.{◌≡◌, ◌⊎◌, ℕ, [], ◌∷◌, ◌++◌, List, Ok, Err, ℤ, true, codes, decimal, length, map, pos};
+ghost use Rattle.std.specs.Prelude.{◌≡◌, ℕ, [], ◌++◌, List, Ok, Err, ℤ, true, codes, decimal, pos};
 ghost use Rattle.craig_spec.specs.Circuit.{Circuit};
-ghost use Rattle.craig_spec.specs.Cut.{PartLiteral, with_units};
 ghost use Rattle.craig_spec.specs.DrawnFromOneRefutation.{IsRefutationOf};
-ghost use Rattle.craig_spec.specs.Literal.{Literal};
 ghost use Rattle.craig_spec.specs.PartialInterpolant.{AB};
 ghost use Rattle.craig_script.specs.declared.line.Line.{Line};
 ghost use Rattle.craig_script.specs.declared.command.Command.TheVariants.{Nothing, Add, Solve};
 ghost use Rattle.craig_script.specs.declared.refusal.Refusal.{Refusal};
-ghost use Rattle.craig_script.specs.declared.refusal.Refusal.TheVariants.{Syntax, Overlong, Range, Variable};
 ghost use Rattle.craig_top.specs.declared.settings.Settings.{Settings};
 ghost use Rattle.craig_top.specs.DrawnSteps.{AreByTheRules};
 ghost use Rattle.craig_top.specs.GivenState.{State, next, reading, script_literal, start};
-ghost use Rattle.craig_top.specs.RefutationReply.{IsCircuitText, IsRefutationReply, output_literals};
-ghost use Rattle.craig_top.specs.Reply.{Reply, assumptions_of};
-ghost use Rattle.craig_top.specs.ReplyContents.{HaveTheNames, HasAccepted, IsTextOf, IsStrictText, PrintsModel};
+ghost use Rattle.craig_top.specs.RefutationReply.{IsCircuitText, output_literals};
+ghost use Rattle.craig_top.specs.ReplyContents.{EachAddition, EachDrawnReply, EachRefutingReply, EachReply, EachReplyCircuit, HaveTheNames, HasAccepted, MayAnswer, IsPrintedFirst, IsTextOf, IsStrictText, PrintsRefutation, RefusalsAreNumbered};
 ghost use Rattle.craig_top.specs.ReplyTexts.{literals_text, refusal_text};
 ghost use Rattle.craig_top.specs.TrueParts.{AreFirstOnes, AreImplied, AreNamedByCuts, AreOfAllCuts, AreRefuted, AreTrueWith, FirstPlacesRise, HaveWith, ImplyTheNext, ReachSharedVariables};
 
@@ -33,18 +29,18 @@ pub fn texts_of_circuits()
 /// the literal 0. Between them each has the value of the labelled rules for one refutation of these clauses, where each
 /// variable of both sides is labelled AB.
 pub fn contents_of_a_refutation()
-    ensures text { (state : State) (assumptions : List PartLiteral) (text : List ℕ) (reply : IsRefutationReply state assumptions text) → text ≡ codes "s UNSATISFIABLE\nf " ++ literals_text (map (λ (f : PartLiteral). f.literal) reply.failed) ++ codes "a " ++ decimal (length reply.bytes) ++ codes "\n" ++ reply.bytes }
-    ensures failed { (state : State) (assumptions : List PartLiteral) (text : List ℕ) (reply : IsRefutationReply state assumptions text) → AreFirstOnes assumptions reply.failed × FirstPlacesRise assumptions reply.failed }
-    ensures read { (state : State) (assumptions : List PartLiteral) (text : List ℕ) (reply : IsRefutationReply state assumptions text) → IsTextOf reply.bytes reply.circuit }
-    ensures strict { (state : State) (assumptions : List PartLiteral) (text : List ℕ) (reply : IsRefutationReply state assumptions text) → IsStrictText reply.bytes }
-    ensures named { (state : State) (assumptions : List PartLiteral) (text : List ℕ) (reply : IsRefutationReply state assumptions text) → AreNamedByCuts state.parts reply.circuit.outputs }
-    ensures cuts { (state : State) (assumptions : List PartLiteral) (text : List ℕ) (reply : IsRefutationReply state assumptions text) → AreOfAllCuts state.parts (output_literals reply.circuit) }
-    ensures implied { (state : State) (assumptions : List PartLiteral) (text : List ℕ) (reply : IsRefutationReply state assumptions text) → AreImplied (AreTrueWith state.accepted reply.failed) reply.circuit (output_literals reply.circuit) }
-    ensures refuted { (state : State) (assumptions : List PartLiteral) (text : List ℕ) (reply : IsRefutationReply state assumptions text) → AreRefuted (AreTrueWith state.accepted reply.failed) reply.circuit (output_literals reply.circuit) }
-    ensures shared { (state : State) (assumptions : List PartLiteral) (text : List ℕ) (reply : IsRefutationReply state assumptions text) → ReachSharedVariables (HaveWith state.accepted reply.failed) reply.circuit (output_literals reply.circuit) }
-    ensures onward { (state : State) (assumptions : List PartLiteral) (text : List ℕ) (reply : IsRefutationReply state assumptions text) → ImplyTheNext (AreTrueWith state.accepted reply.failed) reply.circuit (output_literals reply.circuit) }
-    ensures refutation { (state : State) (assumptions : List PartLiteral) (text : List ℕ) (reply : IsRefutationReply state assumptions text) → IsRefutationOf (with_units state.accepted reply.failed) reply.drawn.steps reply.drawn.root }
-    ensures values { (state : State) (assumptions : List PartLiteral) (text : List ℕ) (reply : IsRefutationReply state assumptions text) → AreByTheRules (with_units state.accepted reply.failed) state.parts reply.drawn.steps reply.drawn.root reply.circuit (λ x. AB) (output_literals reply.circuit) }
+    ensures text { EachRefutingReply (λ state assumptions text reply. PrintsRefutation text reply.failed reply.bytes) }
+    ensures failed { EachRefutingReply (λ state assumed text reply. AreFirstOnes assumed reply.failed × FirstPlacesRise assumed reply.failed) }
+    ensures read { EachRefutingReply (λ state assumptions text reply. IsTextOf reply.bytes reply.circuit) }
+    ensures strict { EachRefutingReply (λ state assumptions text reply. IsStrictText reply.bytes) }
+    ensures named { EachRefutingReply (λ state assumptions text reply. AreNamedByCuts state.parts reply.circuit.outputs) }
+    ensures cuts { EachRefutingReply (λ state assumptions text reply. AreOfAllCuts state.parts (output_literals reply.circuit)) }
+    ensures implied { EachReplyCircuit (λ accepted failed c literals. AreImplied (AreTrueWith accepted failed) c literals) }
+    ensures refuted { EachReplyCircuit (λ accepted failed c literals. AreRefuted (AreTrueWith accepted failed) c literals) }
+    ensures shared { EachReplyCircuit (λ accepted failed c literals. ReachSharedVariables (HaveWith accepted failed) c literals) }
+    ensures onward { EachReplyCircuit (λ accepted failed c literals. ImplyTheNext (AreTrueWith accepted failed) c literals) }
+    ensures refutation { EachDrawnReply (λ clauses parts steps root c. IsRefutationOf clauses steps root) }
+    ensures values { EachDrawnReply (λ clauses parts steps root c. AreByTheRules clauses parts steps root c (λ x. AB) (output_literals c)) }
 {
     craig_itp::laws::partial_values_by_steps();
 }
@@ -52,17 +48,17 @@ pub fn contents_of_a_refutation()
 /// The reply to a line is no text, `ok`, the number of a refusal, a model of the accepted clauses and the assumed
 /// literals, or a refutation of them, as the line is read in the state.
 pub fn replies_to_lines()
-    ensures nothing { (state : State) (line : Line) (text : List ℕ) → Reply state line text → reading state line ≡ Ok Nothing → text ≡ [] }
-    ensures add { (state : State) (line : Line) (text : List ℕ) → Reply state line text → (part : ℕ) (lits : List ℤ) → reading state line ≡ Ok (Add part lits) → text ≡ codes "ok\n" }
-    ensures solve { (state : State) (line : Line) (text : List ℕ) → Reply state line text → (pairs : List (ℕ × ℤ)) → reading state line ≡ Ok (Solve pairs) → PrintsModel state.accepted pairs text ⊎ IsRefutationReply state (assumptions_of pairs) text }
-    ensures refused { (state : State) (line : Line) (text : List ℕ) → Reply state line text → (refusal : Refusal) → reading state line ≡ Err refusal → text ≡ refusal_text refusal }
+    ensures nothing { EachReply (λ state line text. reading state line ≡ Ok Nothing → text ≡ []) }
+    ensures add { EachReply (λ state line text. (part : ℕ) (lits : List ℤ) → reading state line ≡ Ok (Add part lits) → text ≡ codes "ok\n") }
+    ensures solve { EachReply (λ state line text. (pairs : List (ℕ × ℤ)) → reading state line ≡ Ok (Solve pairs) → MayAnswer state pairs text) }
+    ensures refused { EachReply (λ state line text. (refusal : Refusal) → reading state line ≡ Err refusal → text ≡ refusal_text refusal) }
 {}
 
 /// Two parts and no clause come before the first line. An added clause is accepted last, and any other line changes
 /// nothing.
 pub fn states_after_lines()
     ensures start { (settings : Settings) → ((start settings).parts ≡ 2) × ((start settings).accepted ≡ []) }
-    ensures add { (state : State) (line : Line) (part : ℕ) (lits : List ℤ) → reading state line ≡ Ok (Add part lits) → HasAccepted state part lits (next state line) }
+    ensures add { EachAddition (λ state part lits after. HasAccepted state part lits after) }
     ensures nothing { (state : State) (line : Line) → reading state line ≡ Ok Nothing → next state line ≡ state }
     ensures solve { (state : State) (line : Line) (pairs : List (ℕ × ℤ)) → reading state line ≡ Ok (Solve pairs) → next state line ≡ state }
     ensures refused { (state : State) (line : Line) (refusal : Refusal) → reading state line ≡ Err refusal → next state line ≡ state }
@@ -72,9 +68,9 @@ pub fn states_after_lines()
 /// negated.
 pub fn printed_literals()
     ensures none { literals_text [] ≡ codes "0\n" }
-    ensures positive { (n : ℕ) (literals : List Literal) → literals_text (script_literal (pos n) ∷ literals) ≡ decimal n ++ codes " " ++ literals_text literals }
-    ensures negative { (n : ℕ) (literals : List Literal) → literals_text (record { var = n; negated = true } ∷ literals) ≡ codes "-" ++ decimal n ++ codes " " ++ literals_text literals }
-    ensures refusals { (refusal_text Syntax ≡ codes "e 1\n") × (refusal_text Overlong ≡ codes "e 2\n") × (refusal_text Range ≡ codes "e 3\n") × (refusal_text Variable ≡ codes "e 4\n") }
+    ensures positive { (n : ℕ) → IsPrintedFirst (script_literal (pos n)) (decimal n) }
+    ensures negative { (n : ℕ) → IsPrintedFirst (record { var = n; negated = true }) (codes "-" ++ decimal n) }
+    ensures refusals { RefusalsAreNumbered }
 {}
 
 #[cfg(test)]

@@ -1,13 +1,10 @@
 //! What a run has taken and put, by its status.
 
-ghost use Rattle.std.specs.Prelude.{◌≡◌, ℕ, ◌<◌, ◌≤◌, List, [], length, map, Option, Some};
-ghost use Rattle.craig_io.specs.Faults.{Rose};
+ghost use Rattle.std.specs.Prelude.{◌≡◌, ℕ, ◌<◌, ◌≤◌, List, [], length, Some};
 ghost use Rattle.craig_script.specs.declared.line.Line.{Line};
-ghost use Rattle.craig_script.specs.Lines.{line_of, script_lines, whole_lines};
-ghost use Rattle.craig_top.specs.declared.settings.Settings.{Settings};
-ghost use Rattle.craig_top.specs.Ending.{EndsDone, Promise};
-ghost use Rattle.craig_top.specs.GivenState.{State, start};
-ghost use Rattle.craig_top.specs.PutReplies.{AreFirstReplies, AreReplies, StandsBehind, IsBrokenOff, IsDoneOrNoMemory, Takes};
+ghost use Rattle.craig_script.specs.Lines.{script_lines};
+ghost use Rattle.craig_top.specs.GivenState.{State};
+ghost use Rattle.craig_top.specs.PutReplies.{AreFirstReplies, AreReplies, FaultlessRunsEnd, IsBrokenOff, IsDoneOrNoMemory, RunsPut, RunsTake, StandsBehind, TakenAreAnswered, Takes};
 ghost use Rattle.craig_top.specs.Transcript.{BeginsTranscript, BreaksOff, Transcript};
 
 use crate::status::Status;
@@ -23,30 +20,30 @@ pub fn replies_of_a_transcript()
 /// Which bytes a run has taken of a source that tells them, by its status: all of fewer than the bound, none, fewer
 /// than the bound, or as many as the bound.
 pub fn bytes_taken()
-    ensures done { (settings : Settings) (bound : ℕ) (all : List ℕ) (left before after : Option (List ℕ)) → Promise settings bound Status.Done (Some all) left before after → (left ≡ Some []) × (length all < bound) }
-    ensures usage { (settings : Settings) (bound : ℕ) (all : List ℕ) (left before after : Option (List ℕ)) → Promise settings bound Status.Usage (Some all) left before after → left ≡ Some all }
-    ensures read_fault { (settings : Settings) (bound : ℕ) (all : List ℕ) (left before after : Option (List ℕ)) → Promise settings bound Status.ReadFault (Some all) left before after → Takes all left (λ taken. length taken < bound) }
-    ensures write_fault { (settings : Settings) (bound : ℕ) (all : List ℕ) (left before after : Option (List ℕ)) → Promise settings bound Status.WriteFault (Some all) left before after → Takes all left (λ taken. length taken ≤ bound) }
-    ensures too_long { (settings : Settings) (bound : ℕ) (all : List ℕ) (left before after : Option (List ℕ)) → Promise settings bound Status.TooLong (Some all) left before after → Takes all left (λ taken. length taken ≡ bound) }
-    ensures no_memory { (settings : Settings) (bound : ℕ) (all : List ℕ) (left before after : Option (List ℕ)) → Promise settings bound Status.NoMemory (Some all) left before after → Takes all left (λ taken. length taken ≤ bound) }
+    ensures done { RunsTake Status.Done (λ bound all left. (left ≡ Some []) × (length all < bound)) }
+    ensures usage { RunsTake Status.Usage (λ bound all left. left ≡ Some all) }
+    ensures read_fault { RunsTake Status.ReadFault (λ bound all left. Takes all left (λ taken. length taken < bound)) }
+    ensures write_fault { RunsTake Status.WriteFault (λ bound all left. Takes all left (λ taken. length taken ≤ bound)) }
+    ensures too_long { RunsTake Status.TooLong (λ bound all left. Takes all left (λ taken. length taken ≡ bound)) }
+    ensures no_memory { RunsTake Status.NoMemory (λ bound all left. Takes all left (λ taken. length taken ≤ bound)) }
 {}
 
 /// What a run has put behind the bytes of a sink that tells them, by its status: a reply for each line of the script,
 /// nothing, a reply for each line whose newline was taken, or the replies to some lines from the first on, with the
 /// front of the next reply behind them where a write failed.
 pub fn replies_put()
-    ensures done { (settings : Settings) (bound : ℕ) (all held : List ℕ) (left after : Option (List ℕ)) → Promise settings bound Status.Done (Some all) left (Some held) after → StandsBehind held after (AreReplies (start settings) (script_lines all)) }
-    ensures usage { (settings : Settings) (bound : ℕ) (all held : List ℕ) (left after : Option (List ℕ)) → Promise settings bound Status.Usage (Some all) left (Some held) after → after ≡ Some held }
-    ensures read_fault { (settings : Settings) (bound : ℕ) (all held : List ℕ) (left after : Option (List ℕ)) → Promise settings bound Status.ReadFault (Some all) left (Some held) after → Takes all left (λ taken. StandsBehind held after (AreReplies (start settings) (map line_of (whole_lines taken)))) }
-    ensures write_fault { (settings : Settings) (bound : ℕ) (all held : List ℕ) (left after : Option (List ℕ)) → Promise settings bound Status.WriteFault (Some all) left (Some held) after → StandsBehind held after (IsBrokenOff (start settings) (script_lines all)) }
-    ensures too_long { (settings : Settings) (bound : ℕ) (all held : List ℕ) (left after : Option (List ℕ)) → Promise settings bound Status.TooLong (Some all) left (Some held) after → Takes all left (λ taken. StandsBehind held after (AreReplies (start settings) (map line_of (whole_lines taken)))) }
-    ensures no_memory { (settings : Settings) (bound : ℕ) (all held : List ℕ) (left after : Option (List ℕ)) → Promise settings bound Status.NoMemory (Some all) left (Some held) after → StandsBehind held after (AreFirstReplies (start settings) (script_lines all)) }
+    ensures done { RunsPut Status.Done (λ given all left held now. StandsBehind held now (AreReplies given (script_lines all))) }
+    ensures usage { RunsPut Status.Usage (λ given all left held now. now ≡ Some held) }
+    ensures read_fault { RunsPut Status.ReadFault (λ given all left held now. TakenAreAnswered given all left held now) }
+    ensures write_fault { RunsPut Status.WriteFault (λ given all left held now. StandsBehind held now (IsBrokenOff given (script_lines all))) }
+    ensures too_long { RunsPut Status.TooLong (λ given all left held now. TakenAreAnswered given all left held now) }
+    ensures no_memory { RunsPut Status.NoMemory (λ given all left held now. StandsBehind held now (AreFirstReplies given (script_lines all))) }
 {}
 
 /// A run of a told script below the bound, of which no read and no write failed, ends with no other status than `Done`
 /// or `NoMemory`.
 pub fn runs_end_done()
-    ensures { (bound : ℕ) (status : Status) (all : List ℕ) (reads more_reads writes more_writes : ℕ) → EndsDone bound status (Some all) (Rose reads more_reads) (Rose writes more_writes) → length all < bound → ¬ Rose reads more_reads → ¬ Rose writes more_writes → IsDoneOrNoMemory status }
+    ensures { FaultlessRunsEnd (λ status. IsDoneOrNoMemory status) }
 {}
 
 #[cfg(test)]

@@ -1,5 +1,5 @@
 //! Laws of arenas, for proofs about any caller of one. The functions do nothing.
-ghost use Rattle.std.specs.Prelude.{◌≡◌, ◌<◌, ◌^◌, ◌++◌, [], ◌∷◌, ℕ, Bool, false, List, Some, Contains, slice_index_or};
+ghost use Rattle.std.specs.Prelude.{◌≡◌, ◌<◌, ◌++◌, [], ◌∷◌, ℕ, Bool, false, List, Some, Contains, slice_index_or};
 ghost use Rattle.craig_spec.specs.Literal.{Clause};
 ghost use Rattle.craig_spec.specs.Chain.{GivesSame};
 ghost use Rattle.craig_spec.specs.Truth.{variable_value};

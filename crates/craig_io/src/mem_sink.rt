@@ -1,10 +1,10 @@
 //! A sink in memory, which fails at the calls that it is given and where its room is full.
 
-ghost use Rattle.std.specs.Prelude.{◌≡◌, ◌↔◌, ◌⊎◌, ◌<◌, ◌≤◌, ◌^◌, ◌-◌, ◌++◌, [], Some, length, take, min, vec_len, vec_capacity, IsErr, IfOk, OnOk, OnErr, Contains};
-ghost use Rattle.craig_io.specs.Faults.{Rose, raised};
+ghost use Rattle.std.specs.Prelude.{◌≡◌, ◌↔◌, ◌<◌, ◌≤◌, ◌^◌, ◌-◌, [], Some, length, min, vec_len, vec_capacity, IsErr, IfOk, OnOk, OnErr};
+ghost use Rattle.craig_io.specs.Faults.{Rose};
 ghost use Rattle.craig_io.specs.ToldBytes.{StaysTold};
 ghost use Rattle.craig_io.specs.Sink.{AppendsFirst};
-ghost use Rattle.craig_io.specs.Calls.{CallsMade, call_counted, fault_counted};
+ghost use Rattle.craig_io.specs.Calls.{call_counted, fault_counted};
 ghost use Rattle.craig_io.specs.MemSink.{MemSinkView, IsMemSink, WriteFails, with_written};
 
 use crate::calls::Calls;

@@ -1,5 +1,5 @@
 -- Chains over a look-up: what they name, and how they grow.
-use Rattle.std.proofs.Common.{◌≡◌, ◌⊎◌, inl, inr, ℕ, suc, zero, Bool, true, false, not, eqb, ◌||◌, List, [], ◌∷◌, ◌++◌, map, Contains, Option, Some, refl, sym, ap, subst, ◌∙◌, arith, eqb-true, eq-eqb}
+use Rattle.std.proofs.Common.{◌≡◌, ◌⊎◌, inl, inr, ℕ, suc, zero, true, List, [], ◌∷◌, ◌++◌, map, Contains, Option, Some, sym, subst, arith}
 use Rattle.std.proofs.lemmas.List.{map-append}
 use Rattle.craig_spec.proofs.ToldLemmas.{IsChain-given}
 use Rattle.craig_spec.proofs.MemberLemmas.{Contains-front, Contains-later}

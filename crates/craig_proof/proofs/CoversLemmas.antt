@@ -1,5 +1,5 @@
 -- What a tracer was told goes on covering the clauses of a solver.
-use Rattle.std.proofs.Common.{◌≡◌, ◌≢◌, ℕ, suc, ◌+◌, ◌<◌, ◌≤◌, Bool, true, false, cond, not, ◌&&◌, ◌||◌, eqb, List, [], ◌∷◌, ◌++◌, get_or, map, All, Contains, Option, Some, None, refl, sym, ap, subst, ◌∙◌, arith, eqb-true, eq-eqb, ne_eqb}
+use Rattle.std.proofs.Common.{◌≡◌, ◌≢◌, ℕ, suc, ◌+◌, ◌<◌, ◌≤◌, Bool, true, false, cond, not, ◌&&◌, ◌||◌, eqb, List, [], ◌∷◌, ◌++◌, get_or, map, All, Contains, Option, Some, None, refl, sym, ap, subst, ◌∙◌, arith, eqb-true, ne_eqb}
 use Rattle.std.specs.List.{filter, list_any}
 use Rattle.std.specs.Option.{ForSome, option_map, is_some}
 use Rattle.std.proofs.lemmas.Bool.{eqb-false}
@@ -7,7 +7,7 @@ use Rattle.std.proofs.lemmas.List.Elements.{Contains-get_or}
 use Rattle.craig_spec.proofs.ToldLemmas.{clause_told-pushed, clause_told-last, IsUnforgotten-pushed}
 use Rattle.craig_spec.proofs.ClauseLemmas.{SameLiterals-trans}
 use Rattle.craig_spec.specs.Literal.{Clause}
-use Rattle.craig_spec.specs.Chain.{ChainStep, Derived, ToldStep, Told, antecedents, clause_told, forgotten_at, nothing_told, with_step, without_id, IsUnforgotten, IsAbove, SameLiterals, GivesSame, ChainOk, StandsOn}
+use Rattle.craig_spec.specs.Chain.{ChainStep, Derived, ToldStep, Told, antecedents, clause_told, forgotten_at, nothing_told, with_step, without_id, IsUnforgotten, IsAbove, GivesSame, ChainOk, StandsOn}
 use Rattle.craig_spec.specs.Needed.{Reclaims}
 use Rattle.craig_proof.specs.declared.step.Step.{Step}
 use Rattle.craig_proof.specs.Tracer.{chain_of, original_step, derived_step, Appends}

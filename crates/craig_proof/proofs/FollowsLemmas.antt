@@ -1,7 +1,6 @@
 -- What is derived by resolution follows.
-use Rattle.std.proofs.Common.{◌≡◌, ℕ, suc, zero, ◌<◌, Bool, true, false, cond, not, ◌||◌, eqb, List, [], ◌∷◌, length, get_or, take, map, Contains, Option, Some, length-take, refl, ap, sym, ◌∙◌, arith, eqb-true, ◌⊎◌, inl, inr}
+use Rattle.std.proofs.Common.{◌≡◌, ℕ, suc, zero, ◌<◌, Bool, true, false, cond, not, eqb, List, [], ◌∷◌, length, get_or, take, map, Contains, Option, Some, length-take, refl, ap, sym, ◌∙◌, arith, eqb-true, ◌⊎◌, inl, inr}
 use Rattle.std.proofs.lemmas.List.{get_or_default, get_or-take}
-use Rattle.std.proofs.lemmas.Bool.{eqb-false}
 use Rattle.craig_spec.proofs.ToldLemmas.{IsNeeded-below}
 use Rattle.craig_spec.proofs.MemberLemmas.{Contains-front, Contains-later}
 use Rattle.craig_spec.proofs.LiteralLemmas.{same_or_not}
@@ -9,7 +8,7 @@ use Rattle.craig_spec.proofs.ClauseLemmas.{clause_value-find, clause_value-membe
 use Rattle.craig_spec.specs.Literal.{Literal, Clause, negation}
 use Rattle.craig_spec.specs.Truth.{Assignment, literal_value, clause_value, variable_value}
 use Rattle.craig_spec.specs.Chain.{ChainStep, Origin, Original, Derived, ToldStep, Told, antecedents, clause_told, IsResolvent, IsChain, ChainOk, StandsOn, IsTold}
-use Rattle.craig_spec.specs.Needed.{IsNeeded, OriginalsHold, AllFollow}
+use Rattle.craig_spec.specs.Needed.{OriginalsHold, AllFollow}
 
 -- a literal and its negation aren't both true
 not_both-signs : (v n : Bool) → cond n (not v) v ≡ true → cond (not n) (not v) v ≡ true → ⊥

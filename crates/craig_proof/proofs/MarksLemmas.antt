@@ -8,7 +8,7 @@ use Rattle.std.proofs.Math.ListN.{get_or-map}
 use Rattle.std.proofs.Math.Bool.{or-true}
 use Rattle.craig_spec.proofs.ToldLemmas.{StandsOn-given}
 use Rattle.craig_spec.specs.Literal.{Clause}
-use Rattle.craig_spec.specs.Chain.{ChainStep, Origin, Original, Derived, ToldStep, Told, antecedents, clause_told, IsChain, StandsOn, EachStands, AreRising, IsTold}
+use Rattle.craig_spec.specs.Chain.{ChainStep, ToldStep, Told, antecedents, clause_told, IsChain, EachStands, AreRising, IsTold}
 use Rattle.craig_spec.specs.Needed.{IsClosed, IsNeeded, IsNeededPart, unforgotten}
 use Rattle.craig_proof.specs.StoredSteps.{step_of, origin_of}
 use Rattle.craig_proof.specs.declared.stored_step.StoredStep.{StoredStep}

@@ -12,7 +12,6 @@ use Rattle.craig_spec.specs.Chain.{ToldStep, Told, antecedents, clause_told, IsU
 use Rattle.craig_spec.specs.Needed.{IsNeeded, IsNeededPart, unforgotten}
 use Rattle.craig_proof.specs.NeededMarks.{last_id}
 use Rattle.craig_proof.proofs.ChainLemmas.{StandsOn-same}
-use Rattle.craig_proof.proofs.FollowsLemmas.{told_place}
 use Rattle.craig_proof.proofs.ReclaimLemmas.{EachStands-left, clause_told-left}
 use Rattle.craig_proof.proofs.ReplayLemmas.{part}
 use Rattle.craig_proof.proofs.RootLemmas.{last_needed, needed_below_root}

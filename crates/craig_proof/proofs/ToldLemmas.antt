@@ -1,7 +1,7 @@
 -- Lists of steps that were told.
 use Rattle.std.proofs.Common.{◌≡◌, ℕ, suc, zero, ◌<◌, ◌≤◌, Bool, true, false, cond, not, ◌&&◌, eqb, List, [], ◌∷◌, ◌++◌, length, get_or, set, take, map, All, AllPairs, Some, length-append, refl, ap, ◌∙◌, arith, eqb-true, ne_eqb, eq-eqb, ◌||◌}
 use native.Mathlib.Decide.{dec_lt}
-use Rattle.std.specs.List.{filter, list_any}
+use Rattle.std.specs.List.{list_any}
 use Rattle.std.proofs.lemmas.List.{get_or_default, take-append-le, take-map, length-map}
 use Rattle.std.proofs.Math.ListN.{get_or-append, get_or-map}
 use Rattle.std.proofs.Math.Seq.{take-append_seam, get_or-append_seam}
@@ -10,7 +10,7 @@ use Rattle.std.proofs.lemmas.List.Elements.{All-push}
 use Rattle.std.proofs.Math.Bool.{or-true}
 use Rattle.craig_spec.specs.Literal.{Clause}
 use Rattle.craig_spec.specs.Chain.{Origin, ToldStep, Told, nothing_told, with_step, forgotten_at, without_id, clause_told, IsUnforgotten, IsAbove, StandsOn, IsTold}
-use Rattle.craig_spec.specs.Needed.{Reclaims, IsOriginal}
+use Rattle.craig_spec.specs.Needed.{IsOriginal}
 use Rattle.craig_base.specs.Clauses.{IsNormal}
 use Rattle.craig_proof.specs.NeededMarks.{HasId}
 use Rattle.craig_proof.specs.StoredSteps.{IsStore}

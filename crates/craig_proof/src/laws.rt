@@ -3,8 +3,8 @@
 ghost use Rattle.std.specs.Prelude.{◌≡◌, [], false, ℕ, List, Option, Some, Contains};
 ghost use Rattle.std.specs.Option.{ForSome};
 ghost use Rattle.craig_spec.specs.Literal.{Clause};
-ghost use Rattle.craig_spec.specs.Chain.{ToldStep, Told, IsAbove, IsTold, IsUnforgotten, StandsOn, ChainOk, antecedents, clause_told, nothing_told, with_step, without_id};
-ghost use Rattle.craig_spec.specs.Needed.{AllFollow, IsNeededPart, Reclaims, unforgotten};
+ghost use Rattle.craig_spec.specs.Chain.{ToldStep, Told, IsAbove, IsTold, IsUnforgotten, StandsOn, ChainOk, clause_told, nothing_told, with_step, without_id};
+ghost use Rattle.craig_spec.specs.Needed.{AllFollow, IsNeededPart, Reclaims};
 ghost use Rattle.craig_proof.specs.Covers.{IsCovering};
 ghost use Rattle.craig_proof.specs.LawsOfChains.{ChainsOverSameClauses, ChainsAreSound, ChainsKeepFromTautologies, AntecedentsAreGiven, LiteralsAreOfAntecedents, VariablesAreOfAntecedents, ResolventsExtendChains, ChainsInAnyOrder};
 ghost use Rattle.craig_proof.specs.LawsOfCovering.{CoveredIdsAreUnforgotten, CoveredAntecedentsAreUnforgotten, CoveredChainsAreTold, NothingToldCoversNoClauses, FewerClausesAreCovered, OriginalsKeepCovering, DerivedClausesKeepCovering, ForgettingKeepsCovering, ReclaimingKeepsCovering};

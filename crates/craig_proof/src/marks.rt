@@ -1,10 +1,9 @@
 //! Which steps a root needs: one pass from the last step back, which marks the antecedents of each marked step.
-ghost use Rattle.std.specs.Prelude.{◌≡◌, ◌||◌, ℕ, false, All, length, map, nat_eq, IfOk};
+ghost use Rattle.std.specs.Prelude.{◌≡◌, ℕ, false, All, length, map, nat_eq, IfOk};
 ghost use Rattle.std.specs.List.{list_any};
 ghost use Rattle.craig_spec.specs.Chain.{AreRising, EachStands, antecedents};
 ghost use Rattle.craig_proof.specs.NeededMarks.{AreNeededMarks, HasId, MarksMore, mark_of};
 ghost use Rattle.craig_proof.specs.StoredSteps.{origin_of, step_of};
-ghost use Rattle.craig_proof.specs.Tracer.{chain_of};
 
 use crate::Step;
 use crate::place::place_of;

@@ -1,8 +1,8 @@
 //! Telling a tracer the marked steps again, from the first to the last.
-ghost use Rattle.std.specs.Prelude.{◌≡◌, ℕ, Some, All, length, map, filter, is_some, OnOk};
+ghost use Rattle.std.specs.Prelude.{◌≡◌, All, length, map, is_some, OnOk};
 ghost use Rattle.std.specs.Option.{ForSome};
 ghost use Rattle.craig_base.specs.Clauses.{IsNormal};
-ghost use Rattle.craig_spec.specs.Chain.{Told, AreRising, EachStands, StandsOn, IsAbove, IsUnforgotten, antecedents, nothing_told};
+ghost use Rattle.craig_spec.specs.Chain.{AreRising, EachStands, StandsOn, IsAbove, IsUnforgotten, antecedents, nothing_told};
 ghost use Rattle.craig_spec.specs.Needed.{IsClosed, IsOriginal, unforgotten};
 ghost use Rattle.craig_proof.specs.NeededMarks.{TellsMarkedSteps, mark_of};
 ghost use Rattle.craig_proof.specs.StoredSteps.{OriginalsNormal, origin_of, step_of};

@@ -2,6 +2,7 @@
 use Rattle.std.proofs.Common.{◌≡◌, inl, inr, ℕ, ◌<◌, ◌≤◌, ◌⊎◌, Bool, true, false, cond, not, ◌&&◌, ◌||◌, eqb, List, [], ◌∷◌, map, Contains, Option, Some, None, refl, sym, ap, subst, ◌∙◌, arith}
 use Rattle.std.specs.List.{list_any}
 use Rattle.std.specs.Option.{ForSome, is_some, option_map}
+use Rattle.std.proofs.lemmas.Bool.{false_from_ne_true}
 use Rattle.craig_spec.specs.Chain.{Told, ToldStep, IsUnforgotten, clause_told, forgotten_at, without_id}
 use Rattle.craig_base.specs.declared.clause_id.ClauseId.{ClauseId}
 use Rattle.craig_watch.specs.Held.{HeldView, held_clause}
@@ -42,10 +43,6 @@ gone : (id : ℕ) (steps : List ToldStep) → list_any (λ (q : ToldStep). eqb q
 gone id [] = refl
 gone id (s ∷ steps) = gone-cases id s (map (forgotten_at id) steps) (eqb s.id id) refl (gone id steps)
 
-not-true : (b : Bool) → (b ≡ true → ⊥) → b ≡ false
-not-true true never = absurd (never refl)
-not-true false never = refl
-
 -- each step was told before or has an id of the search
 told-steps : (h n : HeldView) (assumptions : Assumptions) (v : Verdict) (t u : Told) → TellsVerdict h n assumptions v t u → (s : ToldStep) → Contains u.steps s → WasTold t s ⊎ (h.arena.given ≤ s.id)
 told-steps h n assumptions verdict.Model t u told s here = elim (told.steps s here) [ inl was ↦ inl was | inr of ↦ inr of.later ]
@@ -57,7 +54,7 @@ stays-forgotten : (given id : ℕ) (t u : Told) → ((s : ToldStep) → Contains
 stays-forgotten given id t u steps low never kept =
     let m = unforgotten_step u.steps id kept in
     elim (steps m.0 m.1) [
-      | inl was ↦ never (subst (IsUnforgotten t.steps) (was.2 ∙ m.2) (IsUnforgotten-step t.steps was.0 was.1 (not-true was.0.forgotten (λ f. let no : true ≡ false = sym (was.5 f) ∙ m.3 in cc))))
+      | inl was ↦ never (subst (IsUnforgotten t.steps) (was.2 ∙ m.2) (IsUnforgotten-step t.steps was.0 was.1 (false_from_ne_true was.0.forgotten (λ f. let no : true ≡ false = sym (was.5 f) ∙ m.3 in cc))))
       | inr later ↦ omega (arith, later, m.2, low)
     ]
 

@@ -14,7 +14,7 @@ use Rattle.craig_order.specs.Order.{OrderView}
 use Rattle.craig_search.specs.Search.{MayBegin}
 use Rattle.craig_solver.specs.declared.state.State.{State}
 use Rattle.craig_solver.specs.Answer.{accepted_clauses}
-use Rattle.craig_solver.specs.Solver.{SolverView}
+use Rattle.craig_solver.specs.Solver.{IsAdded, SolverView}
 use Rattle.craig_solver.specs.Told.{AreAccepted, AreAllTold}
 
 -- what a solver keeps, with what its tracer was told
@@ -43,6 +43,10 @@ accepting part clause s = record s { accepted = s.accepted ++ (part, clause) ∷
 -- the clauses that are held under the ids
 abbrev pub clauses_under : ArenaView → List ClauseId → List Clause
 clauses_under a ids = map (λ id. literals_at a id.0) ids
+
+-- those of a state
+abbrev pub state_clauses : {T : Type 0} → State T → List Clause
+state_clauses s = clauses_under s.held.arena s.held_ids.items
 
 -- the number of a root
 abbrev pub root_number : Option ClauseId → Option ℕ
@@ -109,6 +113,14 @@ pub record IsState (s : StateView) : Type 0 where
   pub all_told : ForSome s.told (AreAllTold s.accepted)
   -- the root is that of a refutation
   pub root_of : IsRootOf s.told s.held.arena s.root
+
+-- a clause with these literals in any order may be accepted
+abbrev pub MayAccept : Part → Clause → StateView → Type 0
+MayAccept part clause s = (written : Clause) → SameLiterals written clause → IsState (accepting part written s)
+
+-- one clause more is accepted by a state
+abbrev pub AcceptsClause : {T : Type 0} → Part → Clause → Option Told → Option Told → State T → State T → Type 0
+AcceptsClause part clause before after old new = IsAdded part clause before after (living_view old) (living_view new)
 
 -- the root of the last refutation is forgotten
 pub record ForgetsRoot (old new : StateView) : Type 0 where

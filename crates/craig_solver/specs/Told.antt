@@ -1,7 +1,8 @@
 -- What a solver tells a tracer that tells its meaning.
-use Rattle.std.specs.Prelude.{◌≡◌, ◌⊎◌, ℕ, false, List, [], Option, Contains}
+use Rattle.std.specs.Prelude.{◌≡◌, ◌⊎◌, ℕ, false, List, [], Option, Some, Contains}
+use Rattle.std.specs.Option.{ForSome}
 use Rattle.craig_spec.specs.Literal.{Clause}
-use Rattle.craig_spec.specs.Chain.{ChainStep, Original, Derived, SameLiterals, Told, ToldStep, IsTold, IsUnforgotten}
+use Rattle.craig_spec.specs.Chain.{ChainStep, Original, Derived, SameLiterals, Told, ToldStep, IsTold, IsUnforgotten, clause_told}
 use Rattle.craig_spec.specs.Needed.{IsNeeded, IsOriginal}
 use Rattle.craig_base.specs.Clauses.{IsNormal, IsTautology}
 use Rattle.craig_proof.specs.Tracer.{Appends, original_step}
@@ -44,6 +45,10 @@ pub record IsToldOf (accepted : List (Part × Clause)) (t : Told) : Type 0 where
   pub originals : AreAccepted accepted t
   -- and each accepted clause that is no tautology is an original
   pub all_told : AreAllTold accepted t
+
+-- the root of a refutation, where there is one, was told as an empty clause and isn't forgotten
+abbrev pub IsRootTold : Option Told → Option ℕ → Type 0
+IsRootTold told number = (root : ℕ) → number ≡ Some root → ForSome told (λ t. IsUnforgotten t.steps root × (clause_told t.steps root ≡ Some []))
 
 -- an accepted clause is told
 pub record TellsNext (part : Part) (clause : Clause) (before after : Option Told) : Type 0 where

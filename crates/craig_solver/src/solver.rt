@@ -2,10 +2,10 @@
 //! by Incremental SAT Solving", Electronic Notes in Theoretical Computer Science 89(4), 2003.
 ghost use Rattle.std.specs.Prelude.{◌≡◌, ◌≢◌, ℕ, ◌<◌, ◌≤◌, [], true, false, Some, None, All, IfOk, OnOk, OnErr, IsErr, is_some, length, max, slice_index_or};
 ghost use Rattle.std.specs.Option.{ForSome};
-ghost use Rattle.craig_spec.specs.Chain.{IsUnforgotten, clause_told, nothing_told};
+ghost use Rattle.craig_spec.specs.Chain.{nothing_told};
 ghost use Rattle.craig_solver.specs.Answer.{accepted_clauses};
 ghost use Rattle.craig_solver.specs.Solver.{IsAdded, IsSolved, StandFor};
-ghost use Rattle.craig_solver.specs.Told.{IsToldOf};
+ghost use Rattle.craig_solver.specs.Told.{IsRootTold, IsToldOf};
 
 use crate::Answer;
 use crate::state::State;
@@ -174,7 +174,7 @@ impl<T: Tracer> Solver<T> {
     pub fn tracer(&self) -> &T
         ensures value { result.now ≡ self.now.tracer }
         ensures told { self.now.dead ≡ false → ForSome (T.told self.now.tracer) (IsToldOf self.now.accepted) }
-        ensures root { (root : ℕ) → self.now.root ≡ Some root → ForSome (T.told self.now.tracer) (λ t. IsUnforgotten t.steps root × (clause_told t.steps root ≡ Some [])) }
+        ensures root { IsRootTold (T.told self.now.tracer) self.now.root }
         ensures dead { self.now.dead ≡ true → self.now.root ≡ None }
     {
         &self.state.tracer

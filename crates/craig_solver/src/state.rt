@@ -1,12 +1,11 @@
 //! What a solver keeps.
 ghost use Rattle.std.specs.Prelude.{◌≡◌, ◌≢◌, ℕ, ◌<◌, ◌≤◌, [], ◌∷◌, ◌++◌, Some, None, All, IfOk, OnOk, OnErr, is_some, max};
 ghost use Rattle.std.specs.Option.{ForSome};
-ghost use Rattle.craig_spec.specs.Literal.{Clause};
-ghost use Rattle.craig_spec.specs.Chain.{SameLiterals, nothing_told};
+ghost use Rattle.craig_spec.specs.Chain.{nothing_told};
 ghost use Rattle.craig_base.specs.Clauses.{IsNormal};
 ghost use Rattle.craig_proof.specs.Tracer.{Appends, original_step};
-ghost use Rattle.craig_solver.specs.Solver.{HoldsNext, IsAdded, IsSolved};
-ghost use Rattle.craig_solver.specs.State.{ForgetsRoot, IsState, accepting, clauses_under, living_view, state_with};
+ghost use Rattle.craig_solver.specs.Solver.{HoldsNext, IsSolved};
+ghost use Rattle.craig_solver.specs.State.{AcceptsClause, ForgetsRoot, IsState, MayAccept, accepting, living_view, state_clauses, state_with};
 ghost use Rattle.craig_solver.specs.Told.{TellsNext};
 
 use crate::Answer;
@@ -83,7 +82,7 @@ impl<T: Tracer> State<T> {
         requires known { All (λ l. l.var < self.old.held.vars) lits.now }
         requires state { IsState (state_with (T.told self.old.tracer) self.old) }
         ensures state { OnOk result (IsState (state_with (T.told self.new.tracer) self.new)) }
-        ensures added { OnOk result (IsAdded part lits.now (T.told self.old.tracer) (T.told self.new.tracer) (living_view self.old) (living_view self.new)) }
+        ensures added { OnOk result (AcceptsClause part lits.now (T.told self.old.tracer) (T.told self.new.tracer) self.old self.new) }
         ensures unchanged { OnErr result (self.new.accepted.items ≡ self.old.accepted.items) }
         ensures vars { self.new.held.vars ≡ self.old.held.vars }
         ensures tells { is_some (T.told self.new.tracer) ≡ is_some (T.told self.old.tracer) }
@@ -100,7 +99,7 @@ impl<T: Tracer> State<T> {
         requires known { All (λ l. l.var < self.old.held.vars) lits.now }
         requires state { IsState (state_with (T.told self.old.tracer) self.old) }
         ensures state { OnOk result (IsState (accepting part lits.now (state_with (T.told self.new.tracer) self.new))) }
-        ensures held { OnOk result (HoldsNext lits.now (clauses_under self.old.held.arena self.old.held_ids.items) (clauses_under self.new.held.arena self.new.held_ids.items)) }
+        ensures held { OnOk result (HoldsNext lits.now (state_clauses self.old) (state_clauses self.new)) }
         ensures told { OnOk result (TellsNext part lits.now (T.told self.old.tracer) (T.told self.new.tracer)) }
         ensures vars { self.new.held.vars ≡ self.old.held.vars }
         ensures accepted { self.new.accepted.items ≡ self.old.accepted.items }
@@ -119,8 +118,8 @@ impl<T: Tracer> State<T> {
         requires normal { IsNormal lits.now }
         requires known { All (λ l. l.var < self.old.held.vars) lits.now }
         requires state { IsState (state_with (T.told self.old.tracer) self.old) }
-        ensures state { OnOk result ((written : Clause) → SameLiterals written lits.now → IsState (accepting part written (state_with (T.told self.new.tracer) self.new))) }
-        ensures held { OnOk result (clauses_under self.new.held.arena self.new.held_ids.items ≡ clauses_under self.old.held.arena self.old.held_ids.items ++ lits.now ∷ []) }
+        ensures state { OnOk result (MayAccept part lits.now (state_with (T.told self.new.tracer) self.new)) }
+        ensures held { OnOk result (state_clauses self.new ≡ state_clauses self.old ++ lits.now ∷ []) }
         ensures told { OnOk result ((id : ℕ) × Appends (T.told self.old.tracer) (T.told self.new.tracer) (original_step id part.0 lits.now)) }
         ensures vars { self.new.held.vars ≡ self.old.held.vars }
         ensures accepted { self.new.accepted.items ≡ self.old.accepted.items }

@@ -9,7 +9,7 @@ use Rattle.craig_spec.specs.Cut.{PartClause, clauses_within}
 use Rattle.craig_spec.specs.DrawnFromOneRefutation.{IsOriginalOf, IsRefutationOf}
 use Rattle.craig_top.specs.Named.{bare_clauses, ArePivotsOver, IsOverOrigin, AreClausesOver, AreStepsOver}
 use Rattle.craig_top.specs.Values.{IsOver, AreOver}
-use Rattle.craig_spec.proofs.MemberLemmas.{Contains-front, Contains-later}
+use Rattle.craig_spec.proofs.MemberLemmas.{Contains-front, Contains-later, Contains-take}
 
 -- a clause over n variables is so literal by literal
 pub IsOver-contains : (n : ℕ) (c : Clause) (l : Literal) → IsOver n c → Contains c l → l.var < n
@@ -44,13 +44,7 @@ clause_told-over n [] over id c e = absurd (cc)
 clause_told-over n (s ∷ steps) over id c e =
     over-cases n s.literals c (clause_told steps id) (eqb s.id id) e (over s (Contains-front s steps)) (clause_told-over n steps (λ r here. over r (Contains-later s steps r here)) id c)
 
--- one of the first steps is one of the steps
-Contains-take : (k : ℕ) (steps : List ToldStep) (s : ToldStep) → Contains (take k steps) s → Contains steps s
-Contains-take zero steps s (i, within, at) = absurd (omega (arith, within))
-Contains-take (suc k) [] s (i, within, at) = absurd (omega (arith, within))
-Contains-take (suc k) (r ∷ steps) s (zero, within, at) = (zero, omega arith, at)
-Contains-take (suc k) (r ∷ steps) s (suc i, within, at) = Contains-later r steps s (Contains-take k steps s (i, omega (arith, within), at))
-
+-- so are the clauses of the first steps
 pub AreClausesOver-take : (n k : ℕ) (steps : List ToldStep) → AreClausesOver n steps → AreClausesOver n (take k steps)
 AreClausesOver-take n k steps over s here = over s (Contains-take k steps s here)
 

@@ -1,12 +1,13 @@
 -- Which refutation the reply to a solve is drawn from: that of the last root.
-use Rattle.std.specs.Prelude.{◌≡◌, ◌⊎◌, ℕ, Bool, List, map, Option, Some, Result, Ok, Err, ℤ}
+use Rattle.std.specs.Prelude.{◌≡◌, ◌⊎◌, ℕ, Bool, false, List, [], map, Option, Some, None, Result, Ok, Err, ℤ}
 use Rattle.craig_spec.specs.Chain.{ToldStep}
 use Rattle.craig_spec.specs.Cut.{PartLiteral}
 use Rattle.craig_spec.specs.Needed.{IsNeededPart}
+use Rattle.craig_script.specs.declared.line.Line.{Line}
 use Rattle.craig_script.specs.declared.command.Command.{Command}
 use Rattle.craig_script.specs.declared.command.Command.TheVariants.{Nothing, Add, Solve}
 use Rattle.craig_script.specs.declared.refusal.Refusal.{Refusal}
-use Rattle.craig_top.specs.GivenState.{State}
+use Rattle.craig_top.specs.GivenState.{State, reading}
 use Rattle.craig_top.specs.Named.{named_step}
 use Rattle.craig_top.specs.RefutationReply.{IsRefutationReply}
 use Rattle.craig_top.specs.Reply.{GivesModel, assumptions_of}
@@ -23,6 +24,10 @@ pub record SessionView : Type 0 where
   pub root : Option ℕ
   -- whether a line wanted memory in vain
   pub dead : Bool
+
+-- what a session is seen as before its first line, with a state
+abbrev pub view_before_lines : State → SessionView
+view_before_lines state = record { state = state; names = []; steps = []; root = None; dead = false }
 
 -- the root is the last one, and the steps are those that it needs, with the variables of the script
 pub record IsOfLastRoot (names : List ℕ) (kept : List ToldStep) (last : Option ℕ) (steps : List ToldStep) (root : ℕ) : Type 0 where
@@ -53,3 +58,7 @@ IsByLastRoot view state (Solve pairs) text = IsSolveReplyBy view.names view.step
 abbrev pub ReadingIsByLastRoot : SessionView → State → Result Command Refusal → List ℕ → Type 0
 ReadingIsByLastRoot view state (Ok command) text = IsByLastRoot view state command text
 ReadingIsByLastRoot view state (Err refusal) text = Unit {0}
+
+-- so is the reply to a line as it is read in the given state
+abbrev pub LineIsByLastRoot : SessionView → State → Line → List ℕ → Type 0
+LineIsByLastRoot view state line = ReadingIsByLastRoot view state (reading state line)

@@ -25,6 +25,7 @@ pub mod StartingSettings
 pub mod Statuses
 pub mod StopStatus
 pub mod Stored
+pub mod StoredReplies
 pub mod Transcript
 pub mod TrueParts
 pub mod Unassuming

@@ -12,9 +12,9 @@ ghost use Rattle.craig_itp.specs.Interpolants.{NeededAreNoted};
 ghost use Rattle.craig_solver.specs.Told.{IsToldOf};
 ghost use Rattle.craig_top.specs.Appended.{AppendsOnly, AppendsText};
 ghost use Rattle.craig_top.specs.CutLayout.{IsCutLayout, cut_outputs_from};
-ghost use Rattle.craig_top.specs.LastRefutation.{IsRefutationBy};
 ghost use Rattle.craig_top.specs.Sides.{AreSidesOf, parted};
-ghost use Rattle.craig_top.specs.Stored.{HaveNames, stored_state};
+ghost use Rattle.craig_top.specs.Stored.{HaveNames};
+ghost use Rattle.craig_top.specs.StoredReplies.{IsRootReply};
 
 use crate::reply::append_unsatisfiable;
 use craig_aig::{Aig, Edge};
@@ -43,7 +43,7 @@ pub fn append_refutation(
     requires told { IsToldOf clauses.now store.now.told }
     requires root { IsUnforgotten store.now.told.steps root.0 }
     requires empty { clause_told store.now.told.steps root.0 ≡ Some [] }
-    ensures reply { OnOk result (AppendsText out.old.items out.new.items (IsRefutationBy names.now store.now.told.steps (Some root.0) (stored_state sides.now.parts names.now clauses.now) [])) }
+    ensures reply { OnOk result (AppendsText out.old.items out.new.items (IsRootReply names.now clauses.now sides.now store.now root.0)) }
     ensures appends { AppendsOnly out.old.items out.new.items }
 {
     craig_aig::laws::bits_are_an_assignment();

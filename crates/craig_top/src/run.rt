@@ -9,7 +9,6 @@ ghost use Rattle.craig_io.specs.Faults.{Rose};
 ghost use Rattle.craig_script.specs.Lines.{fed, ended};
 ghost use Rattle.craig_top.specs.StartingSettings.{starting_settings};
 ghost use Rattle.craig_top.specs.GivenState.{start, after};
-ghost use Rattle.craig_top.specs.Transcript.{Transcript};
 ghost use Rattle.craig_top.specs.Emptied.{emptied};
 ghost use Rattle.craig_top.specs.Faults.{CountsFaults};
 ghost use Rattle.craig_top.specs.Ending.{Promise, EndsDone};
@@ -81,15 +80,15 @@ struct Run {
 }
 
 impl Run {
-    ghost use Rattle.craig_top.specs.Puts.{Puts, Stopped};
+    ghost use Rattle.craig_top.specs.Puts.{PutsReplies, StopsIn};
     ghost use Rattle.craig_top.specs.Progress.{Progress, StepLeaves, IsStop};
 
     /// Answers each line that waits, in order.
     fn answer_ready<W: Sink>(&mut self, sink: &mut W) -> Result<(), Stop>
         ensures lines { OnOk result (self.new.lines ≡ emptied self.old.lines) }
         ensures session { OnOk result (self.new.session.state ≡ after self.old.session.state self.old.lines.ready) }
-        ensures put { OnOk result (Puts (W.contents sink.old) (W.contents sink.new) (Transcript self.old.session.state self.old.lines.ready)) }
-        ensures stopped { IfErr result (λ stop. Stopped stop self.old.session.state self.old.lines.ready (W.contents sink.old) (W.contents sink.new)) }
+        ensures put { OnOk result (PutsReplies self.old.session.state self.old.lines (W.contents sink.old) (W.contents sink.new)) }
+        ensures stopped { IfErr result (StopsIn self.old.session.state self.old.lines (W.contents sink.old) (W.contents sink.new)) }
         ensures write_fault { CountsFaults (result ≡ Err Stop.WriteFault) (W.faults sink.old) (W.faults sink.new) }
     {
         while let Some(line) = self.lines.next() {
@@ -105,8 +104,8 @@ impl Run {
         requires { self.old.lines.finished ≡ false }
         ensures lines { OnOk result (self.new.lines ≡ emptied (fed self.old.lines bytes.now)) }
         ensures session { OnOk result (self.new.session.state ≡ after self.old.session.state (fed self.old.lines bytes.now).ready) }
-        ensures put { OnOk result (Puts (W.contents sink.old) (W.contents sink.new) (Transcript self.old.session.state (fed self.old.lines bytes.now).ready)) }
-        ensures stopped { IfErr result (λ stop. Stopped stop self.old.session.state (fed self.old.lines bytes.now).ready (W.contents sink.old) (W.contents sink.new)) }
+        ensures put { OnOk result (PutsReplies self.old.session.state (fed self.old.lines bytes.now) (W.contents sink.old) (W.contents sink.new)) }
+        ensures stopped { IfErr result (StopsIn self.old.session.state (fed self.old.lines bytes.now) (W.contents sink.old) (W.contents sink.new)) }
         ensures write_fault { CountsFaults (result ≡ Err Stop.WriteFault) (W.faults sink.old) (W.faults sink.new) }
     {
         self.lines.feed(bytes)?;
@@ -115,8 +114,8 @@ impl Run {
 
     /// The script has ended: answers a last line without its newline.
     fn end<W: Sink>(&mut self, sink: &mut W) -> Result<(), Stop>
-        ensures put { OnOk result (Puts (W.contents sink.old) (W.contents sink.new) (Transcript self.old.session.state (ended self.old.lines).ready)) }
-        ensures stopped { IfErr result (λ stop. Stopped stop self.old.session.state (ended self.old.lines).ready (W.contents sink.old) (W.contents sink.new)) }
+        ensures put { OnOk result (PutsReplies self.old.session.state (ended self.old.lines) (W.contents sink.old) (W.contents sink.new)) }
+        ensures stopped { IfErr result (StopsIn self.old.session.state (ended self.old.lines) (W.contents sink.old) (W.contents sink.new)) }
         ensures write_fault { CountsFaults (result ≡ Err Stop.WriteFault) (W.faults sink.old) (W.faults sink.new) }
     {
         self.lines.finish()?;

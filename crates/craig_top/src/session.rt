@@ -1,6 +1,6 @@
 //! A session: one reply for each line, and the state that the lines so far have left.
 
-ghost use Rattle.std.specs.Prelude.{◌≡◌, ℕ, [], ◌++◌, true, false, List, None, OnOk, OnErr, IsErr};
+ghost use Rattle.std.specs.Prelude.{◌≡◌, ℕ, ◌++◌, true, false, List, OnOk, OnErr, IsErr};
 ghost use Rattle.craig_top.specs.Appended.{AppendsOnly, AppendsText};
 
 use crate::settings::Settings;
@@ -38,14 +38,14 @@ impl Model for Session {
 
 impl Session {
     ghost use Rattle.craig_top.specs.StartingSettings.{starting_settings};
-    ghost use Rattle.craig_top.specs.GivenState.{start, reading, next};
-    ghost use Rattle.craig_top.specs.LastRefutation.{ReadingIsByLastRoot};
+    ghost use Rattle.craig_top.specs.GivenState.{start, next};
+    ghost use Rattle.craig_top.specs.LastRefutation.{LineIsByLastRoot, view_before_lines};
     ghost use Rattle.craig_top.specs.Reply.{Reply};
 
     /// The session before the first line. It takes no memory.
     pub fn new(alloc: Global, settings: Settings) -> Session
         requires { settings ≡ starting_settings }
-        ensures { result ≡ record { state = start settings; names = []; steps = []; root = None; dead = false } }
+        ensures { result ≡ view_before_lines (start settings) }
     {
         let _ = settings;
         Session {
@@ -61,7 +61,7 @@ impl Session {
     /// nothing.
     pub fn answer(&mut self, line: &Line, out: &mut Vec<u8>) -> Result<(), AllocError>
         ensures reply { OnOk result (AppendsText out.old.items out.new.items (Reply self.old.state line.now)) }
-        ensures refutation { OnOk result (AppendsText out.old.items out.new.items (ReadingIsByLastRoot self.new self.old.state (reading self.old.state line.now))) }
+        ensures refutation { OnOk result (AppendsText out.old.items out.new.items (LineIsByLastRoot self.new self.old.state line.now)) }
         ensures state { OnOk result (self.new.state ≡ next self.old.state line.now) }
         ensures unchanged { OnErr result (self.new.state ≡ self.old.state) }
         ensures appends { AppendsOnly out.old.items out.new.items }

@@ -7,9 +7,10 @@ ghost use Rattle.craig_script.specs.Reading.{IsParsedAs, admitted, is_within, va
 ghost use Rattle.craig_script.specs.declared.command.Command.{Command};
 ghost use Rattle.craig_top.specs.Appended.{AppendsOnly, AppendsText};
 ghost use Rattle.craig_top.specs.GivenState.{reading, next, obeyed};
-ghost use Rattle.craig_top.specs.LastRefutation.{IsByLastRoot, IsSolveReplyBy, ReadingIsByLastRoot};
+ghost use Rattle.craig_top.specs.LastRefutation.{view_before_lines};
 ghost use Rattle.craig_top.specs.Reply.{Reply, RepliesTo};
 ghost use Rattle.craig_top.specs.Stored.{IsKept, given_state, seen};
+ghost use Rattle.craig_top.specs.StoredReplies.{IsLineReplyStored, IsCommandReplyStored, IsSolveReplyStored};
 ghost use Rattle.craig_top.specs.Unassuming.{IsUnassuming};
 
 use crate::clause::dense_clause;
@@ -41,7 +42,7 @@ impl Stored {
     pub fn new(alloc: Global, parts: u16) -> Stored
         requires { 1 ≤ parts }
         ensures kept { IsKept result }
-        ensures seen { seen result false ≡ record { state = record { parts = parts; accepted = [] }; names = []; steps = []; root = None; dead = false } }
+        ensures seen { seen result false ≡ view_before_lines (record { parts = parts; accepted = [] }) }
     {
         Stored {
             alloc,
@@ -57,7 +58,7 @@ impl Stored {
         requires { IsKept self.old }
         ensures kept { OnOk result (IsKept self.new) }
         ensures reply { OnOk result (AppendsText out.old.items out.new.items (Reply (given_state self.old) line.now)) }
-        ensures refutation { OnOk result (AppendsText out.old.items out.new.items (ReadingIsByLastRoot (seen self.new false) (given_state self.old) (reading (given_state self.old) line.now))) }
+        ensures refutation { OnOk result (AppendsText out.old.items out.new.items (IsLineReplyStored self.old self.new line.now)) }
         ensures state { OnOk result (given_state self.new ≡ next (given_state self.old) line.now) }
         ensures unchanged { OnErr result (given_state self.new ≡ given_state self.old) }
         ensures appends { AppendsOnly out.old.items out.new.items }
@@ -93,7 +94,7 @@ impl Stored {
         requires unassuming { IsUnassuming command }
         ensures kept { OnOk result (IsKept self.new) }
         ensures reply { OnOk result (AppendsText out.old.items out.new.items (RepliesTo (given_state self.old) command)) }
-        ensures refutation { OnOk result (AppendsText out.old.items out.new.items (IsByLastRoot (seen self.new false) (given_state self.old) command)) }
+        ensures refutation { OnOk result (AppendsText out.old.items out.new.items (IsCommandReplyStored self.old self.new command)) }
         ensures state { OnOk result (given_state self.new ≡ obeyed (given_state self.old) command) }
         ensures unchanged { OnErr result (given_state self.new ≡ given_state self.old) }
         ensures appends { AppendsOnly out.old.items out.new.items }
@@ -134,7 +135,7 @@ impl Stored {
     fn solve(&mut self, out: &mut Vec<u8>) -> Result<(), AllocError>
         requires { IsKept self.old }
         ensures kept { OnOk result (IsKept self.new) }
-        ensures reply { OnOk result (AppendsText out.old.items out.new.items (IsSolveReplyBy self.new.names self.new.solver.tracer.told.steps self.new.solver.root (given_state self.old) [])) }
+        ensures reply { OnOk result (AppendsText out.old.items out.new.items (IsSolveReplyStored self.old self.new)) }
         ensures state { given_state self.new ≡ given_state self.old }
         ensures appends { AppendsOnly out.old.items out.new.items }
     {

@@ -2,17 +2,13 @@
 
 ghost use Rattle.std.specs.Prelude.{◌≡◌, ℕ, [], ◌++◌, List, None, true, length, map, OnOk};
 ghost use Rattle.std.specs.List.Sorted.{IsPermutation, IsNonDecreasing};
-ghost use Rattle.craig_spec.specs.Literal.{Literal};
 ghost use Rattle.craig_base.specs.Names.{AreNames};
-ghost use Rattle.craig_solver.specs.Answer.{IsAnswer, root_of_answer};
+ghost use Rattle.craig_solver.specs.Answer.{IsAnswer};
 ghost use Rattle.craig_solver.specs.Told.{IsToldOf, TellsAnswer};
 ghost use Rattle.craig_top.specs.Appended.{AppendsOnly, AppendsText};
-ghost use Rattle.craig_top.specs.LastRefutation.{IsSolveReplyBy};
-ghost use Rattle.craig_top.specs.ModelReply.{IsModelReply};
-ghost use Rattle.craig_top.specs.Naming.{named_clause};
-ghost use Rattle.craig_top.specs.ReplyTexts.{satisfiable_text};
 ghost use Rattle.craig_top.specs.Sides.{AreSidesOf, parted};
-ghost use Rattle.craig_top.specs.Stored.{HaveNames, stored_state};
+ghost use Rattle.craig_top.specs.Stored.{HaveNames};
+ghost use Rattle.craig_top.specs.StoredReplies.{IsAnswerReply, AppendsModel};
 ghost use Rattle.craig_top.specs.Values.{AreOver, all_hold};
 
 use crate::model::{model_literals, named_variables};
@@ -41,7 +37,7 @@ pub fn append_verdict(
     requires told { IsToldOf clauses.now store.now.told }
     requires answer { IsAnswer (map (λ c. c.1) clauses.now) (length names.now) [] None answer.now }
     requires refuted { TellsAnswer clauses.now [] answer.now store.now.told }
-    ensures reply { OnOk result (AppendsText out.old.items out.new.items (IsSolveReplyBy names.now store.now.told.steps (root_of_answer answer.now) (stored_state sides.now.parts names.now clauses.now) [])) }
+    ensures reply { OnOk result (AppendsText out.old.items out.new.items (IsAnswerReply names.now clauses.now sides.now store.now answer.now)) }
     ensures appends { AppendsOnly out.old.items out.new.items }
 {
     craig_base::laws::values_are_an_assignment();
@@ -67,8 +63,7 @@ fn append_values(
     requires over { AreOver (length names.now) (map (λ c. c.1) clauses.now) }
     requires values { length values.now ≡ length names.now }
     requires model { all_hold values.now (map (λ c. c.1) clauses.now) ≡ true }
-    ensures model { OnOk result ((literals : List Literal) × IsModelReply (map (named_clause names.now) (map (λ c. c.1) clauses.now)) literals
-        × (out.new.items ≡ out.old.items ++ satisfiable_text literals)) }
+    ensures model { OnOk result (AppendsModel names.now clauses.now out.old.items out.new.items) }
     ensures appends { AppendsOnly out.old.items out.new.items }
 {
     let named = named_variables(alloc, clauses, names.len() as usize)?;

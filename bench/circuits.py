@@ -97,7 +97,7 @@ fn since(rt: &HostRuntime, start: &Instant) -> u128 {
 
 // Whether the text is read.
 fn is_read(alloc: Global, text: &[u8]) -> bool {
-    craig_aiger::read(alloc, text).is_ok()
+    craig_aiger_read::read(alloc, text).is_ok()
 }
 
 // Prints the number of gates, the bytes, and the nanoseconds of building, layout, size, writing and reading.
@@ -194,7 +194,7 @@ grown_cone first second third input last other (Ok edge) v n one kept within gro
 
 pub returns-clause-cone : goal.returns-clause-cone
 returns-clause-cone c =
-    grown_cone c.args.aig.now c.input.new.self c.and.new.self c.in_ok-input.input c.args.last c.not.result c.and.result c.args.variable _ c.in_ok-input.ensures.cone c.in_ok-input.ensures.kept c.requires.last c.in_ok-input.ensures.extends (c.not.ensures.cone c.input.new.self) c.requires.cone c.and.ensures.cone c.requires.variable
+    grown_cone c.args.aig.now c.input.new.self c.and.new.self c.in_ok-input.input c.args.last c.not.result c.and.result c.args.variable _ c.in_ok-input.ensures.cone c.in_ok-input.ensures.grows.kept c.requires.last c.in_ok-input.ensures.grows.extends (c.not.ensures.cone c.input.new.self) c.requires.cone c.and.ensures.cone c.requires.variable
 """
 
 OF_ONE_ANSWERS = r"""use Rattle.std.proofs.Common.{ℕ, zero, suc, [], ◌∷◌, All, Contains, length, ◌<◌, None, arith}
@@ -224,7 +224,7 @@ def write_crate(folder, sizes):
     """A copy of the crates with the program beside them; the folder of the program is given back."""
     shutil.copytree(os.path.join(ROOT, "crates"), os.path.join(folder, "crates"), ignore=shutil.ignore_patterns("out"))
     with open(os.path.join(ROOT, "crates.txt")) as old, open(os.path.join(folder, "crates.txt"), "w") as new:
-        new.write(old.read() + "circuit_times: anyhow craig_base craig_aig craig_aiger\n")
+        new.write(old.read() + "circuit_times: anyhow craig_base craig_aig craig_aiger craig_aiger_read\n")
     shutil.copy(os.path.join(ROOT, "HANDLES"), folder)
     crate = os.path.join(folder, "crates", "circuit_times")
     for name, text in FILES.items():

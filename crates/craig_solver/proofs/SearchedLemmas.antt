@@ -1,11 +1,11 @@
 -- A solver after a search.
-use Rattle.std.proofs.Common.{◌≡◌, inl, inr, ℕ, ◌<◌, true, false, List, [], ◌∷◌, Contains, Option, Some, None, length, get_or, refl, sym, ap, subst, ◌∙◌, arith}
+use Rattle.std.proofs.Common.{◌≡◌, inl, inr, ℕ, ◌<◌, true, false, List, [], ◌∷◌, Option, Some, None, length, get_or, refl, sym, ap, subst, ◌∙◌, arith}
 use Rattle.std.specs.Option.{ForSome, is_some, option_map_or}
 use Rattle.std.proofs.lemmas.Bool.{cases_lt}
 use Rattle.std.proofs.lemmas.List.{get_or-map, length-map}
 use Rattle.std.proofs.lemmas.List.Elements.{All-weaker}
 use Rattle.craig_spec.specs.Literal.{Clause}
-use Rattle.craig_spec.specs.Chain.{Derived, SameLiterals, Told, ToldStep, IsUnforgotten, clause_told}
+use Rattle.craig_spec.specs.Chain.{Derived, SameLiterals, Told, IsUnforgotten, clause_told}
 use Rattle.craig_spec.specs.Needed.{IsOriginal}
 use Rattle.craig_spec.specs.Occurs.{Occurs, occurs_in_clause}
 use Rattle.craig_spec.specs.Truth.{Assignment, IsModel}

@@ -1,5 +1,5 @@
 -- What a solver is seen as, and what its calls change.
-use Rattle.std.specs.Prelude.{◌≡◌, ℕ, ◌<◌, ◌++◌, [], ◌∷◌, Bool, List, Option, Some, Contains, IsTrue, length, map, slice_index_or}
+use Rattle.std.specs.Prelude.{◌≡◌, ℕ, ◌<◌, ◌++◌, [], ◌∷◌, Bool, List, Option, Some, Contains, IsTrue, length, slice_index_or}
 use Rattle.std.specs.Option.{ForSome}
 use Rattle.craig_spec.specs.Literal.{Clause}
 use Rattle.craig_spec.specs.Chain.{SameLiterals, Told, IsUnforgotten}

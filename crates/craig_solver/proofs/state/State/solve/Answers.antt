@@ -1,6 +1,5 @@
 use Rattle.std.proofs.Common.{ap, subst}
 use Rattle.std.proofs.lemmas.Result.{on_ok_weaker}
-use Rattle.craig_base.specs.Arena.{ArenaView}
 use Rattle.craig_solver.specs.Solver.{AreReordered}
 use Rattle.craig_solver.specs.State.{StateView, clauses_under}
 use Rattle.craig_solver.proofs.AnswerLemmas.{IfOk-both, IsAnswer-searched}

@@ -4,12 +4,11 @@ use Rattle.std.proofs.lemmas.Bool.{and_parts}
 use Rattle.std.specs.List.{list_all}
 use Rattle.craig_spec.specs.Literal.{Clause}
 use Rattle.craig_spec.specs.Truth.{Assignment, IsModel, variable_value, literal_value, clause_value}
-use Rattle.craig_spec.specs.Chain.{SameLiterals}
 use Rattle.craig_spec.specs.Cut.{PartClause, clauses_within}
 use Rattle.craig_top.specs.Named.{bare_clauses, named_part_clause}
 use Rattle.craig_top.specs.Naming.{named_literal, named_clause}
 use Rattle.craig_top.specs.Values.{IsOver, AreOver}
-use Rattle.craig_spec.proofs.MemberLemmas.{Contains-image, list_any-more}
+use Rattle.craig_spec.proofs.MemberLemmas.{Contains-image}
 use Rattle.craig_top.proofs.OverLemmas.{AreOver-contains}
 
 -- the dense assignment gives each dense variable the value of its name

@@ -1,5 +1,5 @@
 -- Counts of faults, call by call.
-use Rattle.std.proofs.Common.{◌≡◌, ◌∙◌, subst, ℕ, ◌≤◌, refl, arith}
+use Rattle.std.proofs.Common.{◌≡◌, ◌∙◌, subst, ℕ, ◌≤◌, arith}
 use Rattle.craig_io.specs.Faults.{Rose}
 use Rattle.craig_top.specs.Faults.{CountsFaults}
 

@@ -1,4 +1,4 @@
-use Rattle.std.proofs.Common.{◌≡◌, ◌∙◌, ap, refl, max, arith}
+use Rattle.std.proofs.Common.{◌∙◌, ap, refl, max, arith}
 use Rattle.craig_solver.specs.Solver.{SolverView}
 use Rattle.craig_top.proofs.GrowthLemmas.{is_within-bounds}
 use Rattle.craig_top.proofs.ResultLemmas.{after_error}

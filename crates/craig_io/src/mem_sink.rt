@@ -106,34 +106,3 @@ impl Sink for MemSink {
         Ok(taken)
     }
 }
-
-#[cfg(test)]
-mod tests {
-    use super::MemSink;
-    use crate::failure::Failed;
-    use crate::put::put_all;
-    use std::test::Fail;
-
-    /// The bytes written are `abc`.
-    #[test]
-    fn put_all_appends_all_or_a_prefix_and_then_counts_a_fault(
-        rt: HostRuntime,
-    ) -> Result<(), Fail> {
-        let rows = [
-            (9, 1, 9, Ok(()), "abc", 0),
-            (2, 9, 9, Err(Failed), "ab", 1),
-            (9, 1, 3, Err(Failed), "ab", 1),
-            (0, 1, 9, Err(Failed), "", 1),
-        ];
-        for (room, piece, fails, answer, held, faults) in rows {
-            let fails = [fails].to_vec(rt.alloc())?;
-            let mut sink = MemSink::new(rt.alloc(), room, piece, fails)?;
-            assert_eq!(rt; put_all(&mut sink, b"abc"), answer);
-            assert_eq!(rt; sink.bytes(), held.as_bytes());
-            let calls = &sink.calls;
-            let met = calls.faults;
-            assert_eq!(rt; met, faults);
-        }
-        Ok(())
-    }
-}

@@ -90,23 +90,3 @@ impl Source for MemSource {
         Ok(given)
     }
 }
-
-#[cfg(test)]
-mod tests {
-    use super::MemSource;
-    use crate::failure::Failed;
-    use crate::source::Source;
-    use std::test::Fail;
-
-    #[test]
-    fn a_read_gives_a_piece_and_fails_as_listed(rt: HostRuntime) -> Result<(), Fail> {
-        let bytes = b"abcde".to_vec(rt.alloc())?;
-        let fails = [2].to_vec(rt.alloc())?;
-        let mut source = MemSource::new(bytes, 3, fails);
-        let mut into = [0; 4];
-        assert_eq!(rt; source.read(&mut into), Ok(3));
-        assert!(rt; into.starts_with(b"abc"));
-        assert_eq!(rt; source.read(&mut into), Err(Failed));
-        Ok(())
-    }
-}

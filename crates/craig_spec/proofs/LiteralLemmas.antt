@@ -36,3 +36,8 @@ literal_value-signs false false = refl
 
 pub literal_value-negation : (s : Assignment) (l : Literal) → literal_value s (negation l) ≡ not (literal_value s l)
 literal_value-negation s l = literal_value-signs (variable_value s l.var) l.negated
+
+-- a literal is true where its variable has the value that its sign asks for
+pub signs : (negated value : Bool) → value ≡ not negated → cond negated (not value) value ≡ true
+signs true value is = rw is refl
+signs false value is = is

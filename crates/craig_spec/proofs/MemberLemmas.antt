@@ -1,5 +1,5 @@
 -- Members of lists, tests and places.
-use Rattle.std.proofs.Common.{◌≡◌, ◌∙◌, sym, ap, refl, ℕ, zero, suc, ◌<◌, Bool, true, ◌⊎◌, List, [], ◌∷◌, length, length-take, take, map, All, Contains, Some, option_map, slice_get, arith, filter, inl, inr}
+use Rattle.std.proofs.Common.{◌≡◌, ◌∙◌, sym, ap, refl, ℕ, zero, suc, ◌<◌, Bool, true, ◌⊎◌, List, [], ◌∷◌, ◌++◌, length, length-take, take, map, All, Contains, Some, option_map, slice_get, arith, filter, inl, inr}
 use Rattle.std.specs.List.{list_any, list_all}
 use Rattle.std.proofs.lemmas.Bool.{and_parts, and_from, or_left, or_right, or_cases}
 use Rattle.std.proofs.lemmas.List.{get_or-map, get_or-take, length-map}
@@ -101,3 +101,13 @@ pub Contains-take : {A : Type 0} (n : ℕ) (xs : List A) (x : A) → Contains (t
 Contains-take n xs x (k, within, at) =
     let before : k < n = omega (arith, within, length-take n xs) in
     (k, omega (arith, within, length-take n xs), sym (get_or-take n xs k x before) ∙ at)
+
+-- what stands behind a front stands at its length
+pub slice_get-front : {A : Type 0} (front : List A) (x : A) (back : List A) → slice_get (front ++ x ∷ back) (length front) ≡ Some x
+slice_get-front [] x back = refl
+slice_get-front (y ∷ front) x back = slice_get-front front x back
+
+-- the images of images
+pub map-map : {A B C : Type 0} (g : B → C) (f : A → B) (xs : List A) → map g (map f xs) ≡ map (λ x. g (f x)) xs
+map-map g f [] = refl
+map-map g f (x ∷ xs) = ap (λ z. g (f x) ∷ z) (map-map g f xs)

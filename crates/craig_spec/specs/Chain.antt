@@ -6,24 +6,34 @@ use Rattle.craig_spec.specs.Literal.{Literal, Clause, negation}
 
 -- one resolution of a chain: the literal that is resolved on, and the id of the clause that has its negation
 pub record ChainStep : Type 0 where
+  -- a literal of the clause so far
   pub pivot : Literal
+  -- the id of the clause that has its negation
   pub antecedent : ℕ
 
 -- where a clause comes from: a part of the input, or a chain that begins at the clause of this id
 pub data Origin : Type 0 where
+  -- an original of the part
   Original : ℕ → Origin
+  -- derived by the chain that begins at the clause of the id
   Derived : ℕ → List ChainStep → Origin
 
 -- a clause under its id, and whether the id is forgotten, so that no later chain names it
 pub record ToldStep : Type 0 where
+  -- the id
   pub id : ℕ
+  -- the literals
   pub literals : Clause
+  -- where it comes from
   pub origin : Origin
+  -- whether the id is forgotten
   pub forgotten : Bool
 
 -- the greatest id that was told, if any, and the steps that are kept, by rising id
 pub record Told : Type 0 where
+  -- the greatest id, where one was told
   pub greatest : Option ℕ
+  -- the steps that are kept
   pub steps : List ToldStep
 
 -- nothing was told yet
@@ -62,7 +72,9 @@ antecedents (Derived first rest) = first ∷ map (λ s. s.antecedent) rest
 
 -- the resolvent of two clauses on a literal of the first
 pub record IsResolvent (pivot : Literal) (c d resolvent : Clause) : Type 0 where
+  -- the first has the literal
   pub first_has : Contains c pivot
+  -- the second has its negation
   pub second_has : Contains d (negation pivot)
   -- no other literal of the one is negated in the other
   pub no_other : (l : Literal) → Contains c l → Contains d (negation l) → l ≡ pivot
@@ -80,8 +92,11 @@ IsChain clause_of c (s ∷ rest) last = (d : Clause) × (resolvent : Clause) × 
 
 -- the chain from the clause of the first id along the rest gives these literals
 pub record ChainOk (clause_of : ℕ → Option Clause) (literals : Clause) (first : ℕ) (rest : List ChainStep) : Type 0 where
+  -- the clause that the chain begins with
   pub start : Clause
+  -- it is that of the first id
   pub start_is : clause_of first ≡ Some start
+  -- the rest leads from it to the literals
   pub chain : IsChain clause_of start rest literals
 
 -- wherever the first look-up gives a clause of the id, the second gives one with the same literals
@@ -103,6 +118,9 @@ AreRising steps = AllPairs (λ r s. r.id < s.id) steps
 
 -- a list of steps by rising id, each on those before it, and the greatest id of them
 pub record IsTold (t : Told) : Type 0 where
+  -- the ids rise
   pub rising : AreRising t.steps
+  -- none is above the greatest
   pub greatest : All (λ s. (g : ℕ) × (t.greatest ≡ Some g) × (s.id ≤ g)) t.steps
+  -- each step stands on those before it
   pub stand : EachStands t.steps

@@ -10,4 +10,5 @@ pub mod AigerReading
 pub mod Cut
 pub mod FailedAssumptions
 pub mod Sequence
+pub mod Strength
 pub mod DrawnFromOneRefutation

@@ -3,7 +3,9 @@ use Rattle.std.specs.Prelude.{ℕ, Bool, not, List}
 
 -- a variable, or the negation of one
 pub record Literal : Type 0 where
+  -- the variable
   pub var : ℕ
+  -- whether it is negated
   pub negated : Bool
 
 -- the literal that is true exactly where this one is false

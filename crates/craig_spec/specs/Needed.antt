@@ -34,9 +34,13 @@ AllFollow steps = (s : ToldStep) (a : Assignment) → Contains steps s → Origi
 
 -- some of the steps are gone, but none that an id needs that isn't forgotten
 pub record Reclaims (before after : Told) : Type 0 where
+  -- the greatest id that was told stays
   pub greatest : after.greatest ≡ before.greatest
+  -- which steps are left
   pub kept : ToldStep → Bool
+  -- these, in order
   pub steps : after.steps ≡ filter kept before.steps
   -- with each step that is left its antecedents are
   pub closed : (s r : ToldStep) → Contains before.steps s → Contains before.steps r → IsTrue (kept s) → Contains (antecedents s.origin) r.id → IsTrue (kept r)
+  -- what an id needs that isn't forgotten is left
   pub needed : (s : ToldStep) (id : ℕ) → Contains before.steps s → IsUnforgotten before.steps id → IsNeeded before.steps id s.id → IsTrue (kept s)

@@ -8,15 +8,20 @@ use Rattle.craig_spec.specs.Chain.{ChainStep, Origin, Original, Derived, ToldSte
 
 -- whether a variable counts as one of side A, of both sides or of side B
 pub data Label : Type 0 where
+  -- as one of side A
   A : Label
+  -- as one of both sides
   AB : Label
+  -- as one of side B
   B : Label
 
+-- whether a label is A
 abbrev pub is_a : Label → Bool
 is_a A = true
 is_a AB = false
 is_a B = false
 
+-- whether a label is B
 abbrev pub is_b : Label → Bool
 is_b A = false
 is_b AB = false
@@ -28,16 +33,18 @@ rank B = 0
 rank AB = 1
 rank A = 2
 
--- which parts stand on side A, and the label of each variable
+-- by which rule the clauses of each part are interpolated, and the label of each variable
 pub record Labelling : Type 0 where
-  pub on_side_a : ℕ → Bool
+  -- the parts whose clauses are leaves of side A; those of the other parts are leaves of side B
+  pub is_leaf_of_a : ℕ → Bool
+  -- the label of each variable
   pub label : ℕ → Label
 
--- a clause of side A has the disjunction of its literals that are labelled B
+-- a leaf of side A has the disjunction of its literals that are labelled B
 abbrev pub leaf_a_value : (ℕ → Label) → Assignment → Clause → Bool
 leaf_a_value label s c = clause_value s (filter (λ l. is_b (label l.var)) c)
 
--- a clause of side B has the conjunction of the negations of its literals that are labelled A
+-- a leaf of side B has the conjunction of the negations of its literals that are labelled A
 abbrev pub leaf_b_value : (ℕ → Label) → Assignment → Clause → Bool
 leaf_b_value label s c = list_all (λ l. not (literal_value s l)) (filter (λ l. is_a (label l.var)) c)
 
@@ -55,7 +62,7 @@ chain_value label s value left (step ∷ rest) =
 
 -- the value of a clause by its origin, where those of the clauses before it are given by their ids
 abbrev pub origin_value : Labelling → Assignment → (ℕ → Bool) → Clause → Origin → Bool
-origin_value l s value c (Original part) = if l.on_side_a part then leaf_a_value l.label s c else leaf_b_value l.label s c
+origin_value l s value c (Original part) = if l.is_leaf_of_a part then leaf_a_value l.label s c else leaf_b_value l.label s c
 origin_value l s value c (Derived first rest) = chain_value l.label s value (value first) rest
 
 -- the values, and this one under the id
@@ -74,14 +81,30 @@ partial_interpolant l steps id s = partial_values l s steps id
 abbrev pub label_at : Bool → Bool → Label → Label
 label_at in_a in_b mark = if in_a then (if in_b then mark else A) else B
 
--- the labelling of a cut: the parts up to the cut are side A
+-- the labelling of a cut, by the variables that occur on side A and on side B: the clauses of the parts from 1 to the cut are leaves of side A, and those of the others, the common ones among them, leaves of side B
 abbrev pub cut_labelling : ℕ → (ℕ → Bool) → (ℕ → Bool) → (ℕ → Label) → Labelling
 cut_labelling cut in_a in_b mark = record {
-  on_side_a = λ part. nat_le part cut;
+  is_leaf_of_a = λ part. nat_le 1 part && nat_le part cut;
   label = λ x. label_at (in_a x) (in_b x) (mark x);
 }
 
--- the second labelling is nowhere lower than the first, and has no part of side A on side B
+-- the lowest labelling: each variable is labelled B, and no clause is a leaf of side A
+abbrev pub lowest_labelling : Labelling
+lowest_labelling = record {
+  is_leaf_of_a = λ part. false;
+  label = λ x. B;
+}
+
+-- the highest labelling: each variable is labelled A, and each clause is a leaf of side A
+abbrev pub highest_labelling : Labelling
+highest_labelling = record {
+  is_leaf_of_a = λ part. true;
+  label = λ x. A;
+}
+
+-- the second labelling is nowhere lower than the first, and takes no leaf of side A to side B
 pub record IsBelow (low high : Labelling) : Type 0 where
+  -- the labels don't fall
   pub labels : (x : ℕ) → IsTrue (nat_le (rank (low.label x)) (rank (high.label x)))
-  pub parts : (part : ℕ) → IsTrue (low.on_side_a part) → IsTrue (high.on_side_a part)
+  -- the leaves of side A stay
+  pub leaves : (part : ℕ) → IsTrue (low.is_leaf_of_a part) → IsTrue (high.is_leaf_of_a part)

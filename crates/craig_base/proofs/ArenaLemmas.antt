@@ -1,15 +1,12 @@
--- The table of an arena and the list of the live clauses that it stands for.
-use Rattle.std.proofs.Common.{◌≡◌, ℕ, suc, zero, ◌+◌, ◌<◌, ◌≤◌, true, cond, not, eqb, List, [], ◌∷◌, ◌++◌, length, get_or, set, map, All, AllPairs, Option, Some, None, length-set, length-append, refl, sym, subst, ◌∙◌, arith, eqb-true, ne_eqb}
+-- The entries of an arena and the list of the live clauses that they stand for.
+use Rattle.std.proofs.Common.{◌≡◌, ℕ, suc, zero, ◌+◌, ◌<◌, ◌≤◌, true, cond, not, eqb, List, [], ◌∷◌, ◌++◌, length, get_or, set, map, All, AllPairs, Option, Some, None, length-set, length-append, refl, sym, subst, arith, eqb-true, ne_eqb}
 use Rattle.std.specs.List.{filter}
-use Rattle.std.specs.Borrow.{Bor}
-use Rattle.std.specs.Option.{option_map, option_copied, IsSome}
+use Rattle.std.specs.Option.{option_map, IsSome}
 use Rattle.std.proofs.lemmas.List.Elements.{All-nil, All-cons, All-weaker}
 use Rattle.std.proofs.lemmas.List.Kept.{AllPairs-cons}
 use Rattle.std.proofs.lemmas.Bool.{eqb-false}
-use Rattle.std.proofs.lemmas.List.{get_or_default}
-use Rattle.craig_base.specs.Arena.{FlaggedClause, LiveClause, ArenaView, IsArena, ChangesOnly, ChangesClause, clause_of, clause_at, literals_at, changed_clause, changed, without, with_id, with_clause}
-use Rattle.craig_base.specs.ArenaTable.{shown, live_from, arena_of}
-use Rattle.craig_base.specs.declared.arena.StoredClause.{StoredClause}
+use Rattle.craig_base.specs.Arena.{FlaggedClause, LiveClause, ArenaView, IsArena, ChangesOnly, ChangesClause, clause_of, clause_at, changed_clause, changed, without, with_id, with_clause}
+use Rattle.craig_base.specs.ArenaTable.{live_from, arena_of}
 
 -- what is found after one clause is changed
 pub clause_of-changed : (f : FlaggedClause → FlaggedClause) (id k : ℕ) (cs : List LiveClause) → clause_of (map (changed_clause f id) cs) k ≡ cond (eqb k id) (option_map f (clause_of cs id)) (clause_of cs k)
@@ -22,13 +19,13 @@ clause_of-without id k [] = grind arith
 clause_of-without id k (c ∷ cs) = let rest = clause_of-without id k cs in grind (arith, eqb-true, eqb-false)
 
 -- ids below the first are not there
-pub clause_of-before : (entries : List (Option StoredClause)) (first k : ℕ) → k < first → clause_of (live_from first entries) k ≡ None
+pub clause_of-before : (entries : List (Option FlaggedClause)) (first k : ℕ) → k < first → clause_of (live_from first entries) k ≡ None
 clause_of-before [] first k h = refl
 clause_of-before (None ∷ es) first k h = clause_of-before es (suc first) k (omega arith)
 clause_of-before (Some c ∷ es) first k h = rw (ne_eqb first k (λ same. omega arith)) (clause_of-before es (suc first) k (omega arith))
 
 -- nor those past the last
-pub clause_of-after : (entries : List (Option StoredClause)) (first k : ℕ) → first + length entries ≤ k → clause_of (live_from first entries) k ≡ None
+pub clause_of-after : (entries : List (Option FlaggedClause)) (first k : ℕ) → first + length entries ≤ k → clause_of (live_from first entries) k ≡ None
 clause_of-after [] first k h = refl
 clause_of-after (None ∷ es) first k h = clause_of-after es (suc first) k (omega arith)
 clause_of-after (Some c ∷ es) first k h = rw (ne_eqb first k (λ same. omega arith)) (clause_of-after es (suc first) k (omega arith))
@@ -36,8 +33,8 @@ clause_of-after (Some c ∷ es) first k h = rw (ne_eqb first k (λ same. omega a
 same_eqb : (a b : ℕ) → a ≡ b → eqb a b ≡ true
 same_eqb a b e = grind arith
 
--- what is found is what the entry shows
-pub clause_of-entry : (entries : List (Option StoredClause)) (first i k : ℕ) → k ≡ first + i → clause_of (live_from first entries) k ≡ option_map shown (get_or entries i None)
+-- what is found is the entry
+pub clause_of-entry : (entries : List (Option FlaggedClause)) (first i k : ℕ) → k ≡ first + i → clause_of (live_from first entries) k ≡ get_or entries i None
 clause_of-entry [] first i k e = refl
 clause_of-entry (None ∷ es) first zero k e = clause_of-before es (suc first) k (omega arith)
 clause_of-entry (None ∷ es) first (suc i) k e = clause_of-entry es (suc first) i k (omega arith)
@@ -45,29 +42,29 @@ clause_of-entry (Some c ∷ es) first zero k e = rw (same_eqb first k (omega ari
 clause_of-entry (Some c ∷ es) first (suc i) k e = rw (ne_eqb first k (λ same. omega arith)) (clause_of-entry es (suc first) i k (omega arith))
 
 -- a change of an id below the first changes nothing
-map-before : (f : FlaggedClause → FlaggedClause) (entries : List (Option StoredClause)) (first k : ℕ) → k < first → map (changed_clause f k) (live_from first entries) ≡ live_from first entries
+map-before : (f : FlaggedClause → FlaggedClause) (entries : List (Option FlaggedClause)) (first k : ℕ) → k < first → map (changed_clause f k) (live_from first entries) ≡ live_from first entries
 map-before f [] first k h = refl
 map-before f (None ∷ es) first k h = map-before f es (suc first) k (omega arith)
 map-before f (Some c ∷ es) first k h = rw (ne_eqb first k (λ same. omega arith), map-before f es (suc first) k (omega arith)) refl
 
 -- a write to the entry of a live clause changes the one clause
-pub live_from-changed : (f : FlaggedClause → FlaggedClause) (entries : List (Option StoredClause)) (first i k : ℕ) (old new : StoredClause) → k ≡ first + i → get_or entries i None ≡ Some old → shown new ≡ f (shown old) → live_from first (set entries i (Some new)) ≡ map (changed_clause f k) (live_from first entries)
-live_from-changed f [] first i k old new e at_i now = absurd (cc)
-live_from-changed f (None ∷ es) first zero k old new e at_i now = absurd (cc)
-live_from-changed f (Some c ∷ es) first zero k old new e at_i now =
+pub live_from-changed : (f : FlaggedClause → FlaggedClause) (entries : List (Option FlaggedClause)) (first i k : ℕ) (old : FlaggedClause) → k ≡ first + i → get_or entries i None ≡ Some old → live_from first (set entries i (Some (f old))) ≡ map (changed_clause f k) (live_from first entries)
+live_from-changed f [] first i k old e at_i = absurd (cc)
+live_from-changed f (None ∷ es) first zero k old e at_i = absurd (cc)
+live_from-changed f (Some c ∷ es) first zero k old e at_i =
     let same : c ≡ old = cc in
-    rw (same_eqb first k (omega arith), map-before f es (suc first) k (omega arith), now, same) refl
-live_from-changed f (None ∷ es) first (suc i) k old new e at_i now = live_from-changed f es (suc first) i k old new (omega arith) at_i now
-live_from-changed f (Some c ∷ es) first (suc i) k old new e at_i now =
-    rw (ne_eqb first k (λ same. omega arith), live_from-changed f es (suc first) i k old new (omega arith) at_i now) refl
+    rw (same_eqb first k (omega arith), map-before f es (suc first) k (omega arith), same) refl
+live_from-changed f (None ∷ es) first (suc i) k old e at_i = live_from-changed f es (suc first) i k old (omega arith) at_i
+live_from-changed f (Some c ∷ es) first (suc i) k old e at_i =
+    rw (ne_eqb first k (λ same. omega arith), live_from-changed f es (suc first) i k old (omega arith) at_i) refl
 
-filter-before : (entries : List (Option StoredClause)) (first k : ℕ) → k < first → filter (λ c. not (eqb c.id k)) (live_from first entries) ≡ live_from first entries
+filter-before : (entries : List (Option FlaggedClause)) (first k : ℕ) → k < first → filter (λ c. not (eqb c.id k)) (live_from first entries) ≡ live_from first entries
 filter-before [] first k h = refl
 filter-before (None ∷ es) first k h = filter-before es (suc first) k (omega arith)
 filter-before (Some c ∷ es) first k h = rw (ne_eqb first k (λ same. omega arith), filter-before es (suc first) k (omega arith)) refl
 
 -- an entry that is emptied takes the one clause out
-pub live_from-without : (entries : List (Option StoredClause)) (first i k : ℕ) → k ≡ first + i → live_from first (set entries i None) ≡ filter (λ c. not (eqb c.id k)) (live_from first entries)
+pub live_from-without : (entries : List (Option FlaggedClause)) (first i k : ℕ) → k ≡ first + i → live_from first (set entries i None) ≡ filter (λ c. not (eqb c.id k)) (live_from first entries)
 live_from-without [] first i k e = refl
 live_from-without (None ∷ es) first zero k e = sym (filter-before es (suc first) k (omega arith))
 live_from-without (Some c ∷ es) first zero k e = rw (same_eqb first k (omega arith)) (sym (filter-before es (suc first) k (omega arith)))
@@ -75,13 +72,13 @@ live_from-without (None ∷ es) first (suc i) k e = live_from-without es (suc fi
 live_from-without (Some c ∷ es) first (suc i) k e = rw (ne_eqb first k (λ same. omega arith), live_from-without es (suc first) i k (omega arith)) refl
 
 -- an empty entry at the end adds no clause
-pub live_from-numbered : (entries : List (Option StoredClause)) (first : ℕ) → live_from first (entries ++ None ∷ []) ≡ live_from first entries
+pub live_from-numbered : (entries : List (Option FlaggedClause)) (first : ℕ) → live_from first (entries ++ None ∷ []) ≡ live_from first entries
 live_from-numbered [] first = refl
 live_from-numbered (None ∷ es) first = live_from-numbered es (suc first)
 live_from-numbered (Some c ∷ es) first = rw (live_from-numbered es (suc first)) refl
 
 -- an entry at the end adds its clause there
-pub live_from-added : (entries : List (Option StoredClause)) (c : StoredClause) (first k : ℕ) → k ≡ first + length entries → live_from first (entries ++ Some c ∷ []) ≡ live_from first entries ++ record { id = k; clause = shown c } ∷ []
+pub live_from-added : (entries : List (Option FlaggedClause)) (c : FlaggedClause) (first k : ℕ) → k ≡ first + length entries → live_from first (entries ++ Some c ∷ []) ≡ live_from first entries ++ record { id = k; clause = c } ∷ []
 live_from-added [] c first k e = let same : first ≡ k = omega arith in rw same refl
 live_from-added (None ∷ es) c first k e = live_from-added es c (suc first) k (omega arith)
 live_from-added (Some d ∷ es) c first k e = rw (live_from-added es c (suc first) k (omega arith)) refl
@@ -92,113 +89,83 @@ clause_of-added [] c id k none = grind (arith, eqb-true, eqb-false)
 clause_of-added (d ∷ cs) c id k none = let rest = clause_of-added cs c id k in grind (arith, eqb-true, eqb-false)
 
 -- the entry of an id that was given
-pub clause_at-entry : (entries : List (Option StoredClause)) (k : ℕ) → clause_at (arena_of entries) k ≡ option_map shown (get_or entries k None)
+pub clause_at-entry : (entries : List (Option FlaggedClause)) (k : ℕ) → clause_at (arena_of entries) k ≡ get_or entries k None
 clause_at-entry entries k = clause_of-entry entries 0 k k (omega arith)
 
-within-entry : (entries : List (Option StoredClause)) (i : ℕ) → IsSome (option_map shown (get_or entries i None)) → i < length entries
+within-entry : (entries : List (Option FlaggedClause)) (i : ℕ) → IsSome (get_or entries i None) → i < length entries
 within-entry [] i h = absurd (cc)
 within-entry (e ∷ es) zero h = omega arith
 within-entry (e ∷ es) (suc i) h = let r : i < length es = within-entry es i h in omega arith
 
 -- a live clause has an entry
-pub within-live : (entries : List (Option StoredClause)) (k : ℕ) → IsSome (clause_at (arena_of entries) k) → k < length entries
+pub within-live : (entries : List (Option FlaggedClause)) (k : ℕ) → IsSome (clause_at (arena_of entries) k) → k < length entries
 within-live entries k h = within-entry entries k (rw clause_at-entry at h)
 
 -- an entry that is emptied
-pub arena_of-without : (entries : List (Option StoredClause)) (k : ℕ) → arena_of (set entries k None) ≡ without (arena_of entries) k
+pub arena_of-without : (entries : List (Option FlaggedClause)) (k : ℕ) → arena_of (set entries k None) ≡ without (arena_of entries) k
 arena_of-without entries k = rw (live_from-without entries 0 k k (omega arith), length-set entries k None) refl
 
 pub ChangesOnly-without : (a : ArenaView) (k : ℕ) → ChangesOnly a (without a k) k None
 ChangesOnly-without a id k = clause_of-without id k a.clauses
 
 -- a clause that is changed in its entry
-pub arena_of-changed : (f : FlaggedClause → FlaggedClause) (entries : List (Option StoredClause)) (k : ℕ) (old new : StoredClause) → get_or entries k None ≡ Some old → shown new ≡ f (shown old) → arena_of (set entries k (Some new)) ≡ changed f (arena_of entries) k
-arena_of-changed f entries k old new at_k now = rw (live_from-changed f entries 0 k k old new (omega arith) at_k now, length-set entries k (Some new)) refl
+pub arena_of-changed : (f : FlaggedClause → FlaggedClause) (entries : List (Option FlaggedClause)) (k : ℕ) (old : FlaggedClause) → get_or entries k None ≡ Some old → arena_of (set entries k (Some (f old))) ≡ changed f (arena_of entries) k
+arena_of-changed f entries k old at_k = rw (live_from-changed f entries 0 k k old (omega arith) at_k, length-set entries k (Some (f old))) refl
 
 pub ChangesClause-changed : (f : FlaggedClause → FlaggedClause) (a : ArenaView) (k : ℕ) → ChangesClause a (changed f a k) k f
 ChangesClause-changed f a id k = clause_of-changed f id k a.clauses
 
 -- one id more
-pub arena_of-numbered : (entries : List (Option StoredClause)) → arena_of (entries ++ None ∷ []) ≡ with_id (arena_of entries)
+pub arena_of-numbered : (entries : List (Option FlaggedClause)) → arena_of (entries ++ None ∷ []) ≡ with_id (arena_of entries)
 arena_of-numbered entries = rw (live_from-numbered entries 0, length-append entries (None ∷ [])) refl
 
 -- one clause more
-pub arena_of-added : (entries : List (Option StoredClause)) (c : StoredClause) → arena_of (entries ++ Some c ∷ []) ≡ with_clause (arena_of entries) (shown c)
+pub arena_of-added : (entries : List (Option FlaggedClause)) (c : FlaggedClause) → arena_of (entries ++ Some c ∷ []) ≡ with_clause (arena_of entries) c
 arena_of-added entries c = rw (live_from-added entries c 0 (length entries) (omega arith), length-append entries (Some c ∷ [])) refl
 
 -- nothing is live under an id that was not given
-pub clause_at-next : (entries : List (Option StoredClause)) → clause_at (arena_of entries) (length entries) ≡ None
+pub clause_at-next : (entries : List (Option FlaggedClause)) → clause_at (arena_of entries) (length entries) ≡ None
 clause_at-next entries = clause_of-after entries 0 (length entries) (omega arith)
 
-pub ChangesOnly-added : (entries : List (Option StoredClause)) (c : FlaggedClause) → ChangesOnly (arena_of entries) (with_clause (arena_of entries) c) (length entries) (Some c)
+pub ChangesOnly-added : (entries : List (Option FlaggedClause)) (c : FlaggedClause) → ChangesOnly (arena_of entries) (with_clause (arena_of entries) c) (length entries) (Some c)
 ChangesOnly-added entries c k = clause_of-added (live_from 0 entries) c (length entries) k (clause_at-next entries)
 
 -- the ids of a table lie between its first and its last
-ids-within : (entries : List (Option StoredClause)) (first : ℕ) → All (λ c. (first ≤ c.id) × (c.id < first + length entries)) (live_from first entries)
+ids-within : (entries : List (Option FlaggedClause)) (first : ℕ) → All (λ c. (first ≤ c.id) × (c.id < first + length entries)) (live_from first entries)
 ids-within [] first = All-nil (λ c. (first ≤ c.id) × (c.id < first + 0))
 ids-within (None ∷ es) first = All-weaker (λ c. (suc first ≤ c.id) × (c.id < suc first + length es)) (λ c. (first ≤ c.id) × (c.id < first + suc (length es))) (λ c h. (omega arith, omega arith)) (live_from (suc first) es) (ids-within es (suc first))
 ids-within (Some d ∷ es) first = All-cons (λ c. (first ≤ c.id) × (c.id < first + suc (length es))) _ _ (omega arith, omega arith) (All-weaker (λ c. (suc first ≤ c.id) × (c.id < suc first + length es)) (λ c. (first ≤ c.id) × (c.id < first + suc (length es))) (λ c h. (omega arith, omega arith)) (live_from (suc first) es) (ids-within es (suc first)))
 
-ids-rising : (entries : List (Option StoredClause)) (first : ℕ) → AllPairs (λ c d. c.id < d.id) (live_from first entries)
+ids-rising : (entries : List (Option FlaggedClause)) (first : ℕ) → AllPairs (λ c d. c.id < d.id) (live_from first entries)
 ids-rising [] first = λ i j d before within. absurd (omega arith)
 ids-rising (None ∷ es) first = ids-rising es (suc first)
 ids-rising (Some c ∷ es) first = AllPairs-cons (λ c d. c.id < d.id) _ _ (All-weaker (λ d. (suc first ≤ d.id) × (d.id < suc first + length es)) (λ d. first < d.id) (λ d h. omega arith) (live_from (suc first) es) (ids-within es (suc first))) (ids-rising es (suc first))
 
 -- every table stands for an arena
-pub IsArena-table : (entries : List (Option StoredClause)) → IsArena (arena_of entries)
+pub IsArena-table : (entries : List (Option FlaggedClause)) → IsArena (arena_of entries)
 IsArena-table entries = record {
   rising = ids-rising entries 0;
   below = All-weaker (λ c. (0 ≤ c.id) × (c.id < 0 + length entries)) (λ c. c.id < length entries) (λ c h. omega arith) (live_from 0 entries) (ids-within entries 0);
 }
 
--- the entry of a live clause, read without a default
-pub entry-live : (entries : List (Option StoredClause)) (k : ℕ) (x : Option StoredClause) → IsSome (clause_at (arena_of entries) k) → x ≡ get_or entries k x → get_or entries k None ≡ x
-entry-live entries k x live e = let within : k < length entries = within-live entries k live in get_or_default entries k None x within ∙ sym e
-
-is_some-shown : (x : Option StoredClause) → IsSome (option_map shown x) → IsSome x
-is_some-shown None h = h
-is_some-shown (Some c) h = refl
-
--- so it isn't empty
-pub is_some-live : (entries : List (Option StoredClause)) (k : ℕ) (x : Option StoredClause) → IsSome (clause_at (arena_of entries) k) → x ≡ get_or entries k x → IsSome x
-is_some-live entries k x live e = is_some-shown x (rw (clause_at-entry, entry-live entries k x live e) at live)
-
--- its literals
-pub literals_at-entry : (entries : List (Option StoredClause)) (k : ℕ) (c : StoredClause) → get_or entries k None ≡ Some c → literals_at (arena_of entries) k ≡ c.literals.items
-literals_at-entry entries k c e = rw (clause_at-entry, e) refl
-
 -- what is found after an entry is emptied
-pub ChangesOnly-table : (entries : List (Option StoredClause)) (k : ℕ) → ChangesOnly (arena_of entries) (arena_of (set entries k None)) k None
+pub ChangesOnly-table : (entries : List (Option FlaggedClause)) (k : ℕ) → ChangesOnly (arena_of entries) (arena_of (set entries k None)) k None
 ChangesOnly-table entries k = subst (λ x. ChangesOnly (arena_of entries) x k None) (sym (arena_of-without entries k)) (ChangesOnly-without (arena_of entries) k)
 
 -- and after it is changed
-pub ChangesClause-table : (f : FlaggedClause → FlaggedClause) (entries : List (Option StoredClause)) (k : ℕ) (old new : StoredClause) → get_or entries k None ≡ Some old → shown new ≡ f (shown old) → ChangesClause (arena_of entries) (arena_of (set entries k (Some new))) k f
-ChangesClause-table f entries k old new at_k now =
-    subst (λ x. ChangesClause (arena_of entries) x k f) (sym (arena_of-changed f entries k old new at_k now)) (ChangesClause-changed f (arena_of entries) k)
+pub ChangesClause-table : (f : FlaggedClause → FlaggedClause) (entries : List (Option FlaggedClause)) (k : ℕ) (old : FlaggedClause) → get_or entries k None ≡ Some old → ChangesClause (arena_of entries) (arena_of (set entries k (Some (f old)))) k f
+ChangesClause-table f entries k old at_k =
+    subst (λ x. ChangesClause (arena_of entries) x k f) (sym (arena_of-changed f entries k old at_k)) (ChangesClause-changed f (arena_of entries) k)
 
 -- and after one is added
-pub ChangesOnly-table_added : (entries : List (Option StoredClause)) (c : StoredClause) → ChangesOnly (arena_of entries) (arena_of (entries ++ Some c ∷ [])) (length entries) (Some (shown c))
+pub ChangesOnly-table_added : (entries : List (Option FlaggedClause)) (c : FlaggedClause) → ChangesOnly (arena_of entries) (arena_of (entries ++ Some c ∷ [])) (length entries) (Some c)
 ChangesOnly-table_added entries c =
-    subst (λ x. ChangesOnly (arena_of entries) x (length entries) (Some (shown c))) (sym (arena_of-added entries c)) (ChangesOnly-added entries (shown c))
+    subst (λ x. ChangesOnly (arena_of entries) x (length entries) (Some c)) (sym (arena_of-added entries c)) (ChangesOnly-added entries c)
 
 -- nothing is live under the new id
-pub clause_at-numbered : (entries : List (Option StoredClause)) → clause_at (arena_of (entries ++ None ∷ [])) (length entries) ≡ None
+pub clause_at-numbered : (entries : List (Option FlaggedClause)) → clause_at (arena_of (entries ++ None ∷ [])) (length entries) ≡ None
 clause_at-numbered entries = rw (live_from-numbered entries 0) (clause_at-next entries)
 
 -- nor past the last
-pub clause_at-past : (entries : List (Option StoredClause)) (k : ℕ) → length entries ≤ k → clause_at (arena_of entries) k ≡ None
+pub clause_at-past : (entries : List (Option FlaggedClause)) (k : ℕ) → length entries ≤ k → clause_at (arena_of entries) k ≡ None
 clause_at-past entries k h = clause_of-after entries 0 k (omega arith)
-
--- what a reference to the entry shows
-pub shown-copied : (r : Option (Bor StoredClause)) → option_map (λ c. shown c.now) r ≡ option_map shown (option_copied r)
-shown-copied None = refl
-shown-copied (Some c) = refl
-
--- the same of what stands in the entry afterwards
-pub arena_of-written : (f : FlaggedClause → FlaggedClause) (entries : List (Option StoredClause)) (k : ℕ) (old : StoredClause) (new : Option StoredClause) → get_or entries k None ≡ Some old → option_map shown new ≡ Some (f (shown old)) → arena_of (set entries k new) ≡ changed f (arena_of entries) k
-arena_of-written f entries k old None at_k now = absurd (cc)
-arena_of-written f entries k old (Some new) at_k now = arena_of-changed f entries k old new at_k (cc)
-
-pub ChangesClause-written : (f : FlaggedClause → FlaggedClause) (entries : List (Option StoredClause)) (k : ℕ) (old : StoredClause) (new : Option StoredClause) → get_or entries k None ≡ Some old → option_map shown new ≡ Some (f (shown old)) → ChangesClause (arena_of entries) (arena_of (set entries k new)) k f
-ChangesClause-written f entries k old None at_k now = absurd (cc)
-ChangesClause-written f entries k old (Some new) at_k now = ChangesClause-table f entries k old new at_k (cc)

@@ -9,7 +9,7 @@ use Rattle.std.proofs.lemmas.Map.Keys.{IsDistinct-head, IsDistinct-tail}
 use Rattle.craig_base.specs.Counting.{count_of, NoneMoreThan}
 
 -- one more number at the front
-count_of-cons : (x y : ℕ) (xs : List ℕ) → count_of x (y ∷ xs) ≡ cond (eqb x y) 1 0 + count_of x xs
+pub count_of-cons : (x y : ℕ) (xs : List ℕ) → count_of x (y ∷ xs) ≡ cond (eqb x y) 1 0 + count_of x xs
 count_of-cons x y xs = sum_by-cons (λ z. cond (eqb x z) 1 0) y xs
 
 -- taking some members out makes no number more frequent

@@ -2,6 +2,7 @@ pub mod ArenaLemmas
 pub mod ClausesLemmas
 pub mod CountingLemmas
 pub mod FoundLemmas
+mod HeadsLemmas
 pub mod LiteralsLemmas
 pub mod LookUpLemmas
 mod BoundLemmas

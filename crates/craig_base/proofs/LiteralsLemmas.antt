@@ -5,7 +5,7 @@ use Rattle.craig_spec.specs.Literal.{Literal, negation}
 use Rattle.craig_base.specs.Literals.{literal_code}
 
 -- the variable and the sign from the parts of two equal codes
-same_parts : (v w : ℕ) (a b : Bool) → 2 * v + cond a 1 0 ≡ 2 * w + cond b 1 0 → (v ≡ w) × (a ≡ b)
+pub same_parts : (v w : ℕ) (a b : Bool) → 2 * v + cond a 1 0 ≡ 2 * w + cond b 1 0 → (v ≡ w) × (a ≡ b)
 same_parts v w true true e = (omega arith, refl)
 same_parts v w true false e = absurd (omega arith)
 same_parts v w false true e = absurd (omega arith)

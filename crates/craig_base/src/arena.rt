@@ -1,50 +1,25 @@
 //! The clauses of a solver, each under the id that it was given.
-ghost use Rattle.std.specs.Prelude.{◌≡◌, ◌<◌, ℕ, [], Some, None, length, vec_len, is_some, remove, swap, IfOk, IfSome, OnErr, if◌then◌else◌, nat_eq};
-ghost use Rattle.std.specs.Option.{option_map};
-ghost use Rattle.craig_base.specs.ArenaTable.{shown};
+ghost use Rattle.std.specs.Prelude.{◌≡◌, ◌<◌, ℕ, [], Some, None, length, is_some, remove, swap, IfOk, IfSome, OnErr, if◌then◌else◌, nat_eq};
 ghost use Rattle.craig_base.specs.Arena.{IsArena, IsLive, clause_at, literals_at, changed, without, with_id, with_clause, ChangesOnly, ChangesClause};
 
+use crate::clause_head::ClauseHead;
+use crate::closing_gaps::close_gaps;
 use crate::{ClauseId, Flags, Lit};
 use std::alloc::{AllocError, Global};
 use std::marker::Model;
 
-#[derive(Drop)]
-struct StoredClause {
-    // in the order in which they are kept
-    literals: Vec<Lit>,
-    // what the solver noted beside it
-    flags: Flags,
-}
-
-impl StoredClause {
-    /// Exchanges the literals at two places.
-    fn swap(&mut self, left: usize, right: usize)
-        requires left { left < vec_len self.old.literals }
-        requires right { right < vec_len self.old.literals }
-        ensures literals { self.new.literals.items ≡ swap self.old.literals.items left right }
-        ensures flags { self.new.flags ≡ self.old.flags }
-    {
-        self.literals.swap(left, right);
-    }
-
-    /// Takes the literal at the place out.
-    fn shrink(&mut self, place: usize)
-        requires { place < vec_len self.old.literals }
-        ensures literals { self.new.literals.items ≡ remove self.old.literals.items place }
-        ensures flags { self.new.flags ≡ self.old.flags }
-    {
-        self.literals.remove(place);
-    }
-}
-
 /// The clauses of a solver, each with its flags.
 ///
-/// Contracts see the live clauses by rising id, and how many ids were given. The table has an entry for each
-/// id that was given, so ids don't run out before memory does.
+/// Contracts see the live clauses by rising id, and how many ids were given. The table has a head for each id that was
+/// given, so ids don't run out before memory does. The literals of all clauses lie in one list, in which those of a
+/// clause that was let go stay until gaps are closed. A clause of n literals takes 4n + 24 bytes, beside what the two
+/// lists have reserved.
 #[derive(Drop)]
 pub struct Arena {
-    // the entry of an id without a live clause is empty
-    entries: Vec<Option<StoredClause>>,
+    // by id
+    heads: Vec<ClauseHead>,
+    // those of all clauses, by rising id, with gaps where a clause was let go or got shorter
+    literals: Vec<Lit>,
 }
 
 impl Model for Arena {
@@ -52,9 +27,11 @@ impl Model for Arena {
 
     ghost Value = { ArenaView };
 
-    ghost use Rattle.craig_base.specs.ArenaTable.{arena_of};
+    ghost use Rattle.craig_base.specs.ArenaTable.{AreLaidOut, arena_with};
 
-    ghost view = { λ a. arena_of a.entries.items };
+    ghost view = { λ a. arena_with a.heads.items a.literals.items };
+
+    ghost invariant = { λ a. AreLaidOut a.heads.items a.literals.items };
 }
 
 impl Arena {
@@ -64,7 +41,8 @@ impl Arena {
         ensures is_arena { IsArena result }
     {
         Arena {
-            entries: Vec::new(alloc),
+            heads: Vec::new(alloc),
+            literals: Vec::new(alloc),
         }
     }
 
@@ -78,7 +56,15 @@ impl Arena {
         ensures is_arena { IsArena self.new }
     {
         let id = ClauseId(self.given());
-        self.entries.push(None)?;
+        let unused = ClauseHead {
+            start: self.literals.len(),
+            length: 0,
+            glue: 0,
+            learnt: false,
+            kept: false,
+            live: false,
+        };
+        self.heads.push(unused)?;
         Ok(id)
     }
 
@@ -92,8 +78,18 @@ impl Arena {
         ensures is_arena { IsArena self.new }
     {
         let id = ClauseId(self.given());
-        let literals = Vec::from_slice(*self.entries.allocator(), lits)?;
-        self.entries.push(Some(StoredClause { literals, flags }))?;
+        // room for the head first, so that no literal stays behind where there is none
+        self.heads.reserve(1)?;
+        let start = self.literals.len();
+        self.literals.extend_from_slice(lits)?;
+        self.heads.push_reserved(ClauseHead {
+            start,
+            length: lits.len(),
+            glue: flags.glue,
+            learnt: flags.learnt,
+            kept: flags.kept,
+            live: true,
+        });
         Ok(id)
     }
 
@@ -102,15 +98,7 @@ impl Arena {
         ensures value { result ≡ self.now.given }
         ensures is_arena { IsArena self.now }
     {
-        self.entries.len() as u64
-    }
-
-    /// The entry of the id, where a clause is live under it.
-    fn entry(&self, id: ClauseId) -> Option<&StoredClause>
-        ensures entry { option_map (λ c. shown c.now) result ≡ clause_at self.now id.0 }
-        ensures is_arena { IsArena self.now }
-    {
-        self.entries.get(id.0 as usize)?.as_ref()
+        self.heads.len() as u64
     }
 
     /// Whether a clause is live under the id.
@@ -118,7 +106,10 @@ impl Arena {
         ensures live { result ≡ is_some (clause_at self.now id.0) }
         ensures is_arena { IsArena self.now }
     {
-        self.entry(id).is_some()
+        match self.heads.get(id.0 as usize) {
+            Some(head) => head.live,
+            None => false,
+        }
     }
 
     /// The literals of a live clause, in the order in which they are kept.
@@ -127,10 +118,8 @@ impl Arena {
         ensures literals { result.now ≡ literals_at self.now id.0 }
         ensures is_arena { IsArena self.now }
     {
-        match self.entry(id) {
-            Some(clause) => clause.literals.as_slice(),
-            None => &[],
-        }
+        let head = self.heads[id.0 as usize];
+        &self.literals[head.start..head.start + head.length]
     }
 
     /// The flags of a live clause.
@@ -138,14 +127,7 @@ impl Arena {
         requires { IsLive self.now id.0 }
         ensures { IfSome (clause_at self.now id.0) (λ c. result ≡ c.flags) }
     {
-        match self.entry(id) {
-            Some(clause) => clause.flags,
-            None => Flags {
-                learnt: false,
-                kept: false,
-                glue: 0,
-            },
-        }
+        self.heads[id.0 as usize].flags()
     }
 
     /// Sets the flags of a live clause.
@@ -155,10 +137,7 @@ impl Arena {
         ensures only { ChangesClause self.old self.new id.0 (λ c. record c { flags = flags }) }
         ensures is_arena { IsArena self.new }
     {
-        let Some(clause) = &mut self.entries[id.0 as usize] else {
-            return;
-        };
-        clause.flags = flags;
+        self.heads[id.0 as usize].set_flags(flags);
     }
 
     /// Exchanges the literals at two places of a live clause.
@@ -170,10 +149,8 @@ impl Arena {
         ensures only { ChangesClause self.old self.new id.0 (λ c. record c { literals = swap c.literals left right }) }
         ensures is_arena { IsArena self.new }
     {
-        let Some(clause) = &mut self.entries[id.0 as usize] else {
-            return;
-        };
-        clause.swap(left, right);
+        let start = self.heads[id.0 as usize].start;
+        self.literals.swap(start + left, start + right);
     }
 
     /// Takes the literal at the place out of a live clause; the later ones move up.
@@ -184,10 +161,11 @@ impl Arena {
         ensures only { ChangesClause self.old self.new id.0 (λ c. record c { literals = remove c.literals place }) }
         ensures is_arena { IsArena self.new }
     {
-        let Some(clause) = &mut self.entries[id.0 as usize] else {
-            return;
-        };
-        clause.shrink(place);
+        let head = &mut self.heads[id.0 as usize];
+        let out = head.start + place;
+        let end = head.start + head.length;
+        head.length -= 1;
+        self.literals.copy_within(out + 1..end, out);
     }
 
     /// Lets a live clause go. Its id is never given again.
@@ -197,45 +175,15 @@ impl Arena {
         ensures only { ChangesOnly self.old self.new id.0 None }
         ensures is_arena { IsArena self.new }
     {
-        self.entries[id.0 as usize] = None;
+        self.heads[id.0 as usize].live = false;
     }
 
-    /// Closes the gaps that clauses which were let go have left. No id changes.
+    /// Closes the gaps that clauses which were let go or got shorter have left, in one walk over all ids that takes no
+    /// memory. No id changes.
     pub fn compact(&mut self)
         ensures { self.new ≡ self.old }
-    {}
-}
-
-#[cfg(test)]
-mod tests {
-    use super::*;
-    use crate::Var;
-    use std::test::Fail;
-
-    #[test]
-    fn ids_go_on_after_a_clause_is_let_go(rt: HostRuntime) -> Result<(), Fail> {
-        let v0 = Lit::new(Var(0), false);
-        let v1 = Lit::new(Var(1), false);
-        let v2 = Lit::new(Var(2), false);
-        let v3 = Lit::new(Var(3), false);
-        let flags = Flags {
-            learnt: true,
-            kept: false,
-            glue: 2,
-        };
-        let mut arena = Arena::new(rt.alloc());
-        let first = arena.add(&[v0, v1], flags)?;
-        let second = arena.add(&[v2], flags)?;
-        arena.number()?;
-        arena.kill(first);
-        arena.compact();
-        let last = arena.add(&[v3], flags)?;
-        assert_eq!(rt; last, ClauseId(3));
-        assert!(rt; !arena.live(first));
-        assert!(rt; arena.live(second));
-        assert_eq!(rt; arena.lits(second), [v2].as_slice());
-        assert!(rt; arena.live(last));
-        assert_eq!(rt; arena.lits(last), [v3].as_slice());
-        Ok(())
+    {
+        let left = close_gaps(&mut self.heads, &mut self.literals);
+        self.literals.truncate(left);
     }
 }

@@ -48,22 +48,3 @@ impl Clauses {
         self.clauses.as_slice()
     }
 }
-
-#[cfg(test)]
-mod tests {
-    use super::*;
-    use crate::{Lit, Var};
-    use std::test::Fail;
-
-    #[test]
-    fn pushed_clauses_stand_in_order(rt: HostRuntime) -> Result<(), Fail> {
-        let mut clauses = Clauses::new(rt.alloc());
-        for var in [3, 5] {
-            let mut clause = Lits::new(rt.alloc());
-            clause.push(Lit::new(Var(var), false))?;
-            clauses.push(clause)?;
-        }
-        assert_eq!(rt; clauses.as_slice().len(), 2);
-        Ok(())
-    }
-}

@@ -54,21 +54,3 @@ pub fn no_longer_list()
 pub fn values_are_an_assignment()
     ensures { (values : List Bool) (x : ℕ) → variable_value (assignment_of_values values) x ≡ slice_index_or values x false }
 {}
-
-#[cfg(test)]
-mod tests {
-    use super::*;
-    use std::test::Fail;
-
-    #[test]
-    fn the_laws_are_called(_rt: HostRuntime) -> Result<(), Fail> {
-        live_ids_were_given();
-        clauses_are_found();
-        one_clause_changes();
-        models_of_an_arena();
-        reordered_clauses();
-        no_longer_list();
-        values_are_an_assignment();
-        Ok(())
-    }
-}

@@ -7,8 +7,10 @@
 #![tactic(auto)]
 
 mod arena;
+mod clause_head;
 mod clause_id;
 mod clause_list;
+mod closing_gaps;
 mod flags;
 pub mod laws;
 mod literal;

@@ -68,23 +68,3 @@ impl Lit {
         }
     }
 }
-
-#[cfg(test)]
-mod tests {
-    use super::*;
-
-    #[test]
-    fn literals_are_ordered_by_variable_the_positive_one_first(rt: HostRuntime) {
-        let ascending = [
-            Lit::new(Var(0), false),
-            Lit::new(Var(0), true),
-            Lit::new(Var(1), false),
-            Lit::new(Var(1), true),
-            Lit::new(Var(2147483647), false),
-            Lit::new(Var(2147483647), true),
-        ];
-        for pair in ascending.windows(2) {
-            assert!(rt; pair[0] < pair[1]);
-        }
-    }
-}

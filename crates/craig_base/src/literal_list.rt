@@ -55,20 +55,3 @@ impl Lits {
         self.literals.as_slice()
     }
 }
-
-#[cfg(test)]
-mod tests {
-    use super::*;
-    use crate::Var;
-    use std::test::Fail;
-
-    #[test]
-    fn pushed_literals_stand_in_order(rt: HostRuntime) -> Result<(), Fail> {
-        let positive = Lit::new(Var(3), false);
-        let mut literals = Lits::new(rt.alloc());
-        literals.push(positive.not())?;
-        literals.push(positive)?;
-        assert_eq!(rt; literals.as_slice(), [positive.not(), positive].as_slice());
-        Ok(())
-    }
-}

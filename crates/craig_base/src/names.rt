@@ -92,21 +92,3 @@ impl Names {
         self.table.is_empty()
     }
 }
-
-#[cfg(test)]
-mod tests {
-    use super::*;
-    use std::test::Fail;
-
-    #[test]
-    fn names_are_numbered_as_they_come(rt: HostRuntime) -> Result<(), Fail> {
-        let mut names = Names::new(rt.alloc());
-        for (name, variable) in [(9, Var(0)), (4, Var(1)), (9, Var(0))] {
-            assert_eq!(rt; names.dense(name)?, variable);
-        }
-        assert_eq!(rt; names.find(5), None);
-        assert_eq!(rt; names.len(), 2);
-        assert_eq!(rt; names.name(Var(1)), 4);
-        Ok(())
-    }
-}

@@ -47,17 +47,3 @@ impl Values {
         self.values[var.0 as usize] = value;
     }
 }
-
-#[cfg(test)]
-mod tests {
-    use super::*;
-    use std::test::Fail;
-
-    #[test]
-    fn a_value_is_set_and_the_others_are_false(rt: HostRuntime) -> Result<(), Fail> {
-        let mut values = Values::new(rt.alloc(), 2)?;
-        values.set(Var(1), true);
-        assert!(rt; values.get(Var(1)));
-        Ok(())
-    }
-}

@@ -4,6 +4,7 @@ pub mod ChainGrowthLemmas
 pub mod ChainLemmas
 pub mod CoversLemmas
 pub mod FollowsLemmas
+mod LentLemmas
 pub mod MarksLemmas
 pub mod OldOrNextLemmas
 pub mod PairLemmas

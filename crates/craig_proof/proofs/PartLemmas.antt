@@ -148,7 +148,7 @@ NeededPart-stand : (steps part : List ToldStep) (root : ℕ) → EachStands step
 NeededPart-stand steps part root stand (p, needed, is) =
     rw is (EachStands-unforgotten (filter (λ s. p s.id) steps) (EachStands-left (λ s. p s.id) steps stand (λ s r here there on ante. (needed r there).1 (needed_closed steps root r.id s here ((needed s here).0 on) ante))))
 
-NeededPart-rising : (steps part : List ToldStep) (root : ℕ) → AreRising steps → IsNeededPart steps root part → AreRising part
+pub NeededPart-rising : (steps part : List ToldStep) (root : ℕ) → AreRising steps → IsNeededPart steps root part → AreRising part
 NeededPart-rising steps part root rising (p, needed, is) =
     rw is (AreRising-unforgotten (filter (λ s. p s.id) steps) (AllPairs-filter (λ r s. r.id < s.id) (λ s. p s.id) steps rising))
 

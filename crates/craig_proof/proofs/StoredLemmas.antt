@@ -18,17 +18,17 @@ rising_stored xs rising i j d before within =
     rw (get_or-map step_of xs i d, get_or-map step_of xs j d) at h
 
 -- the test of the search holds of a front of the steps
-partitioned_at : (x y id i j : ℕ) → i ≤ j → ltb y id ≡ true → (i < j → x < y) → (i ≡ j → x ≡ y) → ltb x id ≡ true
+pub partitioned_at : (x y id i j : ℕ) → i ≤ j → ltb y id ≡ true → (i < j → x < y) → (i ≡ j → x ≡ y) → ltb x id ≡ true
 partitioned_at x y id i j le h rises same = grind (arith, nat_tests)
 
 pub IsPartitionedBy-ids : (xs : List StoredStep) (id : ℕ) → AllPairs (λ r s. r.id.0 < s.id.0) xs → IsPartitionedBy (λ s. ltb s.id.0 id) xs
 IsPartitionedBy-ids xs id rising i j d le within h =
     partitioned_at (get_or xs i d).id.0 (get_or xs j d).id.0 id i j le h (λ before. rising i j d before within) (λ same. ap (λ k. (get_or xs k d).id.0) same)
 
-not_below : (x id : ℕ) → ltb x id ≡ true → x ≡ id → ⊥
+pub not_below : (x id : ℕ) → ltb x id ≡ true → x ≡ id → ⊥
 not_below x id h e = grind (arith, nat_tests)
 
-not_above : (x id : ℕ) → ltb x id ≡ false → x < id → ⊥
+pub not_above : (x id : ℕ) → ltb x id ≡ false → x < id → ⊥
 not_above x id h lt = grind (arith, nat_tests)
 
 -- and the place where it ends is that of the id

@@ -3,6 +3,7 @@ pub mod Covers
 pub mod LawsOfChains
 pub mod LawsOfCovering
 pub mod LawsOfSteps
+pub mod Lent
 pub mod NeededMarks
 pub mod Pair
 pub mod StoredSteps

@@ -3,7 +3,7 @@
 //! Kept steps stand in a list by rising id. What a root needs is found by one pass from the last step back, as proof
 //! checkers do since Goldberg and Novikov (DATE 2003).
 
-ghost use Rattle.std.specs.Prelude.{◌≡◌, Some, None, true, false, All, is_some, OnOk, OnErr, IsErr};
+ghost use Rattle.std.specs.Prelude.{◌≡◌, Some, None, true, false, All, is_some, IfOk, OnOk, OnErr, IsErr};
 ghost use Rattle.std.specs.Option.{ForSome, option_map};
 ghost use Rattle.craig_base.specs.Clauses.{IsNormal};
 ghost use Rattle.craig_spec.specs.Chain.{Told, IsTold, IsAbove, IsUnforgotten, ChainOk, Derived, antecedents, clause_told, nothing_told, with_step, without_id};
@@ -15,7 +15,7 @@ use crate::marks::needed_marks;
 use crate::place::place_of;
 use crate::replay::tell_marked;
 use crate::stored_step::{StoredOrigin, StoredStep};
-use crate::{Step, Tracer};
+use crate::{Needed, Step, Tracer};
 use craig_base::{ClauseId, Lit, Part};
 use std::alloc::{AllocError, Global};
 use std::marker::Model;
@@ -76,6 +76,23 @@ impl ChainStore {
         let steps = self.steps.as_slice();
         let marks = needed_marks(*self.steps.allocator(), steps, root)?;
         tell_marked(steps, marks.as_slice(), into)
+    }
+
+    /// The steps that the root needs, lent one by one, for more than one walk over them. The root isn't forgotten. It takes
+    /// memory for a mark a kept step, a reference a needed one and a number an id up to the root, and its time is that of
+    /// [`replay`](ChainStore::replay) without what that tells.
+    pub fn needed(&self, root: ClauseId) -> Result<Needed<'_>, AllocError>
+        requires { IsUnforgotten self.now.told.steps root.0 }
+        ensures needed { IfOk result (IsNeededPart self.now.told.steps root.0) }
+        ensures refused { self.now.dead ≡ true → IsErr result }
+    {
+        if self.dead {
+            return Err(AllocError);
+        }
+        let alloc = *self.steps.allocator();
+        let steps = self.steps.as_slice();
+        let marks = needed_marks(alloc, steps, root)?;
+        Needed::marked(alloc, steps, marks.as_slice(), root)
     }
 
     /// What was told is a list of steps by rising id, each on those before it, and each clause of it is true
@@ -170,74 +187,4 @@ impl Tracer for ChainStore {
         ensures unchanged { self.new ≡ self.old }
         ensures dead { self.new.dead ≡ self.old.dead }
     {}
-}
-
-#[cfg(test)]
-mod tests {
-    use super::*;
-    use crate::{Pair, Silent};
-    use craig_base::Var;
-    use std::test::Fail;
-
-    /// Tells `[v0]` of part 1, `[~v0]` of part 2, `[v5]` of part 1, and the empty clause of the first two.
-    fn tell_refutation<T: Tracer>(tracer: &mut T) -> Result<(), AllocError>
-        requires { ForSome (T.told tracer.old) (λ t. t ≡ nothing_told) }
-        ensures told { OnOk result (ForSome (T.told tracer.old) (λ _. (u : Told) × (T.told tracer.new ≡ Some u) × IsUnforgotten u.steps 3)) }
-        ensures unforgotten { OnOk result (ForSome (T.told tracer.new) (λ u. IsUnforgotten u.steps 3)) }
-    {
-        let v0 = Lit::new(Var(0), false);
-        let v5 = Lit::new(Var(5), false);
-        let positive = [v0];
-        tracer.original(ClauseId(0), Part(1), &positive)?;
-        let negative = [v0.not()];
-        tracer.original(ClauseId(1), Part(2), &negative)?;
-        let other = [v5];
-        tracer.original(ClauseId(2), Part(1), &other)?;
-        let none: [Lit; 0] = [];
-        let rest = [Step {
-            pivot: v0,
-            antecedent: ClauseId(1),
-        }];
-        tracer.derived(ClauseId(3), &none, ClauseId(0), &rest)
-    }
-
-    /// Says that the clause is done with, and lets go of what no other needs.
-    fn forget_and_reclaim<T: Tracer>(tracer: &mut T, id: ClauseId)
-        requires { ForSome (T.told tracer.old) (λ t. IsUnforgotten t.steps id.0) }
-    {
-        tracer.forget(id);
-        tracer.reclaim();
-    }
-
-    /// Whether the store has exactly the steps of these ids.
-    fn has_ids(store: &ChainStore, ids: &[u64]) -> bool {
-        store.steps.len() == ids.len()
-            && store
-                .steps
-                .iter()
-                .zip(ids.iter())
-                .all(|(step, id)| step.id.0 == *id)
-    }
-
-    #[test]
-    fn replay_leaves_out_what_the_root_does_not_need(rt: HostRuntime) -> Result<(), Fail> {
-        let mut store = ChainStore::new(rt.alloc());
-        tell_refutation(&mut store)?;
-        let mut second = ChainStore::new(rt.alloc());
-        store.replay(ClauseId(3), &mut second)?;
-        assert!(rt; has_ids(&second, &[0, 1, 3]));
-        let mut silent = Silent;
-        store.replay(ClauseId(3), &mut silent)?;
-        Ok(())
-    }
-
-    #[test]
-    fn a_pair_tells_both(rt: HostRuntime) -> Result<(), Fail> {
-        let mut pair = Pair::new(ChainStore::new(rt.alloc()), ChainStore::new(rt.alloc()));
-        tell_refutation(&mut pair)?;
-        forget_and_reclaim(&mut pair, ClauseId(3));
-        assert!(rt; has_ids(pair.first(), &[0, 1, 2, 3]));
-        assert!(rt; has_ids(pair.second(), &[0, 1, 2, 3]));
-        Ok(())
-    }
 }

@@ -97,24 +97,3 @@ pub fn covering_is_kept()
     ensures forgotten { ForgettingKeepsCovering }
     ensures reclaimed { ReclaimingKeepsCovering }
 {}
-
-#[cfg(test)]
-mod tests {
-    use super::*;
-    use std::test::Fail;
-
-    #[test]
-    fn the_laws_are_called(_rt: HostRuntime) -> Result<(), Fail> {
-        told_clauses_follow();
-        told_steps_stand();
-        steps_are_found();
-        needed_part_stands();
-        chain_over_same_clauses();
-        chain_follows();
-        chain_variables();
-        chain_grows();
-        covered_chain_is_told();
-        covering_is_kept();
-        Ok(())
-    }
-}

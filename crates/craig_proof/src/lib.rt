@@ -9,6 +9,7 @@
 mod chain_store;
 pub mod laws;
 mod marks;
+mod needed;
 mod pair;
 mod place;
 mod replay;
@@ -19,6 +20,7 @@ mod stored_step;
 mod tracer;
 
 pub use chain_store::ChainStore;
+pub use needed::{Needed, NeededStep};
 pub use pair::Pair;
 pub use silent::Silent;
 pub use step::Step;

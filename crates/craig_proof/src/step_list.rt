@@ -49,21 +49,3 @@ impl Steps {
         self.steps.as_slice()
     }
 }
-
-#[cfg(test)]
-mod tests {
-    use super::*;
-    use craig_base::{ClauseId, Lit, Var};
-    use std::test::Fail;
-
-    #[test]
-    fn pushed_steps_stand_in_order(rt: HostRuntime) -> Result<(), Fail> {
-        let pivot = Lit::new(Var(3), false);
-        let mut steps = Steps::new(rt.alloc());
-        for antecedent in [ClauseId(7), ClauseId(2)] {
-            steps.push(Step { pivot, antecedent })?;
-        }
-        assert_eq!(rt; steps.as_slice().len(), 2);
-        Ok(())
-    }
-}

@@ -1,5 +1,6 @@
 use Rattle.std.proofs.Common.{◌≡◌, ◌<◌, true, false, length, map, ap, sym, ◌∙◌, arith}
 use Rattle.std.proofs.lemmas.List.{length-map}
+use Rattle.std.proofs.lemmas.Result.{IfOk-from_err}
 use Rattle.craig_spec.specs.Chain.{ToldStep}
 use Rattle.craig_proof.specs.NeededMarks.{mark_of}
 use Rattle.craig_proof.specs.StoredSteps.{step_of}
@@ -59,3 +60,6 @@ pub returns-clause-told : goal.returns-clause-told
 returns-clause-told g c =
     let at_end : c.loop-place.place ≡ length c.args.steps.now = omega (arith, c.loop-place-test.false, c.loop-place.auto.place-end) in
     IsTelling-done (map step_of c.args.steps.now) _ c.loop-place.place _ _ (at_end ∙ sym (length-map c.args.steps.now step_of)) c.loop-place.invariant.telling
+
+pub returns-in_err-tell-clause-told : goal.returns-in_err-tell-clause-told
+returns-in_err-tell-clause-told g c = IfOk-from_err _ _ c.from_residual.ensures.0

@@ -1,5 +1,5 @@
 use Rattle.std.proofs.Common.{ap, map, ◌∙◌}
-use Rattle.std.proofs.lemmas.Result.{on_ok_weaker}
+use Rattle.std.proofs.lemmas.Result.{IfOk-from_err, on_ok_weaker}
 use Rattle.craig_proof.specs.NeededMarks.{last_id, mark_of}
 use Rattle.craig_proof.specs.StoredSteps.{step_of}
 use Rattle.craig_proof.proofs.ToldLemmas.{HasId-unforgotten}
@@ -18,3 +18,6 @@ returns-clause-told g c =
     let marks = c.in_ok-marks.marks.items in
     let greatest = last_needed steps c.args.root.0 (mark_of steps marks) c.self.invariant.told.rising c.self.invariant.told.stand (rw (← c.self.view_is) at c.requires.root) needed.needed in
     rw (← c.self.view_is) (on_ok_weaker c.tell_marked.result (λ h t is. let x = h t is in (x.0, x.1, x.3 ∙ ap last_id x.2 ∙ greatest, IsNeededPart-marks steps c.args.root.0 marks x.0.steps needed x.2)) told)
+
+pub returns-in_err-marks-clause-told : goal.returns-in_err-marks-clause-told
+returns-in_err-marks-clause-told g c = IfOk-from_err _ _ c.from_residual.ensures.0

@@ -11,6 +11,7 @@ use Rattle.craig_watch.specs.declared.value.Value.TheVariants.{True, Free}
 use Rattle.craig_watch.specs.Trail.{Trail, entry_of, value_under, AreDistinct, assignment_of}
 use Rattle.craig_watch.specs.Held.{held_clause, IsSettled, IsComplete}
 use Rattle.craig_watch.proofs.PlacesLemmas.{entry-true}
+use Rattle.craig_spec.proofs.LiteralLemmas.{signs}
 
 -- a variable of no entry is not in the assignment
 absent-step : (b : Bool) (e : TrailEntry) (t : Trail) (v : ℕ) → eqb v e.literal.var ≡ false → variable_value (assignment_of t) v ≡ false → variable_value (map (λ f. f.literal.var) (cond b (e ∷ filter (λ f. not f.literal.negated) t) (filter (λ f. not f.literal.negated) t))) v ≡ false
@@ -43,10 +44,6 @@ variable_value-found : (t : Trail) (v : ℕ) (e : TrailEntry) → AreDistinct t 
 variable_value-found [] v e apart found = absurd (let no : None ≡ Some e = found in cc)
 variable_value-found (f ∷ t) v e apart found =
     found-step (eqb f.literal.var v) f t v e apart refl found (variable_value-found t v e (λ i j d before within. apart (suc i) (suc j) d (omega arith) (omega arith)))
-
-pub signs : (b value : Bool) → value ≡ not b → cond b (not value) value ≡ true
-signs true value is = rw is refl
-signs false value is = is
 
 -- a literal that is true under the trail is true under the assignment
 pub literal_value-true : (t : Trail) (l : Literal) → AreDistinct t → value_under t l ≡ True → literal_value (assignment_of t) l ≡ true

@@ -16,9 +16,9 @@ use Rattle.craig_base.specs.Clauses.{IsNormal}
 use Rattle.craig_watch.specs.declared.trail_entry.TrailEntry.{TrailEntry}
 use Rattle.craig_watch.specs.declared.value.Value.{Value}
 use Rattle.craig_watch.specs.declared.value.Value.TheVariants.{True, False, Free}
-use Rattle.craig_watch.specs.Trail.{Trail, value_under, IsFalse, part_up_to, decisions, AreLevels}
-use Rattle.craig_watch.specs.Held.{HeldView, held_clause, IsSettled, IsComplete, IsCompleteBelow, Forces, IsJustified, AreClauses, IsConsistent, with_entry, HasTwoNotFalse, IsAsserting, MayBeHeld, IsTaken}
-use Rattle.craig_watch.proofs.TrailLemmas.{at_most_one, entry_of-free, absent-entry_of, value_under-part, value_under-part_free, value_under-absent, entry_of-part_above, part_up_to-push, part_up_to-whole, each_push, each_popped, AreLevels-push, AreLevels-popped, levels-bounded, level-last, length-le_from_known, decisions-push}
+use Rattle.craig_watch.specs.Trail.{Trail, value_under, IsFalse, part_up_to, decisions}
+use Rattle.craig_watch.specs.Held.{HeldView, held_clause, IsSettled, IsComplete, IsCompleteBelow, Forces, IsJustified, AreClauses, IsConsistent, with_entry, HasTwoNotFalse, IsAsserting, MayBeHeld}
+use Rattle.craig_watch.proofs.TrailLemmas.{entry_of-free, absent-entry_of, value_under-part, value_under-part_free, value_under-absent, entry_of-part_above, part_up_to-push, part_up_to-whole, each_push, each_popped, AreLevels-push, AreLevels-popped, levels-bounded, level-last, length-le_from_known, decisions-push}
 
 -- another arena under the same trail
 pub IsConsistent-arena : (h : HeldView) (a : ArenaView) (dead : Bool) → IsConsistent h → IsArena a → AreClauses a h.vars → IsCompleteBelow a h.trail h.level → ((k : ℕ) (d : TrailEntry) (id : ClauseId) (c : Clause) → k < length h.trail → (get_or h.trail k d).reason ≡ Some id → held_clause h.arena id.0 ≡ Some c → held_clause a id.0 ≡ Some c) → IsConsistent (record { arena = a; vars = h.vars; trail = h.trail; level = decisions h.trail; dead = dead })
@@ -269,29 +269,3 @@ IsConsistent-forced h l n id c ok held forces free level =
     IsConsistent-push h (forced l n id) ok (All-contains (λ m. m.var < h.vars) c l (ok.clauses id.0 c held).1 forces.has) free
     (λ r is. let e : id ≡ r = cc in (c, subst (λ (x : ClauseId). held_clause h.arena x.0 ≡ Some c) e held, forces))
     (level ∙ sym same) (λ m w. ok.complete m (omega arith))
-
--- going back by one literal above the level
-taken-last_level : (old new : HeldView) → IsConsistent old → (taken : IsTaken old new) → (taken.last.level ≡ old.level) × (old.level ≡ decisions new.trail + cond (is_none taken.last.reason) 1 0)
-taken-last_level old new ok taken =
-    let levels : AreLevels (new.trail ++ taken.last ∷ []) = subst AreLevels taken.trail ok.levels in
-    let present : old.level ≡ decisions (new.trail ++ taken.last ∷ []) = ok.level ∙ ap decisions taken.trail in
-    (level-last new.trail taken.last levels ∙ sym present, present ∙ decisions-push new.trail taken.last)
-
-pub taken-part : (l : ℕ) (old new : HeldView) → IsConsistent old → l < old.level → IsTaken old new → part_up_to l new.trail ≡ part_up_to l old.trail
-taken-part l old new ok above taken =
-    let level = (taken-last_level old new ok taken).0 in
-    sym (ap (part_up_to l) taken.trail ∙ part_up_to-push l new.trail taken.last (omega arith))
-
-pub taken-level : (l : ℕ) (old new : HeldView) → IsConsistent old → l < old.level → IsTaken old new → l ≤ new.level
-taken-level l old new ok above taken =
-    let level : old.level ≡ decisions new.trail + cond (is_none taken.last.reason) 1 0 = (taken-last_level old new ok taken).1 in
-    let one : cond (is_none taken.last.reason) 1 0 ≤ 1 = at_most_one (is_none taken.last.reason) in
-    let is : new.level ≡ decisions new.trail = ap (λ (h : HeldView). h.level) taken.rest in
-    omega arith
-
--- where the way back ends
-pub went-back : (l : ℕ) (old new : HeldView) → IsConsistent new → new.level ≤ l → l ≤ new.level → part_up_to l new.trail ≡ part_up_to l old.trail → new ≡ record { arena = old.arena; vars = old.vars; trail = new.trail; level = new.level; dead = old.dead } → new ≡ record { arena = old.arena; vars = old.vars; trail = part_up_to l old.trail; level = l; dead = old.dead }
-went-back l old new ok low high part rest =
-    let level : new.level ≡ l = omega arith in
-    let trail : new.trail ≡ part_up_to l old.trail = sym (part_up_to-present new l ok low) ∙ part in
-    rest ∙ (λ i. record { arena = old.arena; vars = old.vars; trail = trail i; level = level i; dead = old.dead })

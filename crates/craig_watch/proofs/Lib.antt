@@ -2,8 +2,23 @@ pub mod TrailLemmas
 mod HeldFieldsLemmas
 mod HeldLemmas
 mod StoredLemmas
-mod StandingLemmas
 pub mod PlacesLemmas
 pub mod LevelsLemmas
-mod AssertingLemmas
 pub mod AssignmentLemmas
+mod AssignedLemmas
+mod WatchesLemmas
+mod SettledLemmas
+mod SwapLemmas
+mod TakenLemmas
+mod ReorderedLemmas
+mod ListedLemmas
+mod StateLemmas
+mod VisitLemmas
+mod LookLemmas
+mod PropagateLemmas
+mod KeepingLemmas
+mod GoneLemmas
+mod SweptLemmas
+mod CameLemmas
+mod AssertingLemmas
+mod ShownLemmas

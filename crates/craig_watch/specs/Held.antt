@@ -1,8 +1,9 @@
 -- Held clauses and their trail.
-use Rattle.std.specs.Prelude.{◌≡◌, ◌≢◌, ◌⊎◌, ℕ, ◌<◌, ◌≤◌, Bool, true, false, [], ◌∷◌, ◌++◌, Option, Some, IsSome, length, take, All, Contains, slice_index_or}
+use Rattle.std.specs.Prelude.{◌≡◌, ◌≢◌, ◌⊎◌, ℕ, ◌+◌, ◌<◌, ◌≤◌, Bool, true, false, [], ◌∷◌, ◌++◌, Option, None, Some, IsSome, length, take, All, Contains, slice_index_or}
 use Rattle.craig_spec.specs.Literal.{Literal, Clause}
 use Rattle.craig_base.specs.declared.clause_id.ClauseId.{ClauseId}
-use Rattle.craig_base.specs.Arena.{ArenaView, IsArena, OnlyReorders, literals_of}
+use Rattle.craig_base.specs.declared.flags.Flags.{Flags}
+use Rattle.craig_base.specs.Arena.{ArenaView, IsArena, OnlyReorders, literals_of, with_clause}
 use Rattle.craig_base.specs.Clauses.{IsNormal}
 use Rattle.craig_watch.specs.declared.trail_entry.TrailEntry.{TrailEntry}
 use Rattle.craig_watch.specs.declared.value.Value.TheVariants.{True, False, Free}
@@ -20,6 +21,14 @@ pub record HeldView : Type 0 where
   pub level : ℕ
   -- whether memory was refused
   pub dead : Bool
+
+-- a clause more is held, under the next id
+abbrev pub with_held : HeldView → Clause → Flags → HeldView
+with_held h c flags = record h { arena = with_clause h.arena (record { literals = c; flags = flags }) }
+
+-- one more level is open, with the literal as its decision
+abbrev pub with_decision : HeldView → Literal → HeldView
+with_decision h l = record h { trail = h.trail ++ record { literal = l; level = h.level + 1; reason = None } ∷ []; level = h.level + 1 }
 
 -- the literals of the clause that is held under the id
 abbrev pub held_clause : ArenaView → ℕ → Option Clause
@@ -155,12 +164,3 @@ pub record IsRefused (old new : HeldView) : Type 0 where
 -- the clause is held, and all its literals are false
 abbrev pub IsFalsified : HeldView → ℕ → Type 0
 IsFalsified h id = (c : Clause) × (held_clause h.arena id ≡ Some c) × All (IsFalse h.trail) c
-
--- the last literal is gone from the trail
-pub record IsTaken (old new : HeldView) : Type 0 where
-  -- the entry that is gone
-  pub last : TrailEntry
-  -- it stood last
-  pub trail : old.trail ≡ new.trail ++ last ∷ []
-  -- the level is that of what is left, and all else is the same
-  pub rest : new ≡ record old { trail = new.trail; level = decisions new.trail }

@@ -1,4 +1,7 @@
 pub mod Trail
 pub mod Held
 pub mod HeldFields
-pub mod Standing
+pub mod Assigned
+pub mod Watches
+pub mod WatchedState
+pub mod LawsOfTrails

@@ -3,16 +3,17 @@
 //! A trail of literals with decision levels and reasons is that of Marques-Silva and Sakallah, "GRASP", IEEE
 //! Transactions on Computers 48, 1999, and its stack of assigned literals that of Eén and Sörensson, "An Extensible
 //! SAT-solver", SAT 2003.
-ghost use Rattle.std.specs.Prelude.{◌≡◌, ◌≢◌, ◌+◌, ◌<◌, ◌≤◌, [], ◌∷◌, ◌++◌, false, true, Some, None, All, IfOk, OnOk, OnErr, IsErr, length, map, max, nat_lt, slice_get};
+ghost use Rattle.std.specs.Prelude.{◌≡◌, ◌≢◌, ◌<◌, ◌≤◌, false, true, Some, None, ℕ, All, AllPairs, IfOk, IfSome, OnOk, OnErr, IsErr, length, map, max, nat_lt, slice_get};
 ghost use Rattle.std.specs.Option.{option_map};
-ghost use Rattle.craig_base.specs.Arena.{IsLive, ChangesClause, ChangesOnly, changed, clause_at, with_clause, with_id, without};
+ghost use Rattle.craig_base.specs.Arena.{IsLive, ChangesClause, ChangesOnly, changed, clause_at, with_id, without};
 ghost use Rattle.craig_base.specs.Clauses.{IsNormal};
 ghost use Rattle.craig_watch.specs.Trail.{IsAssigned, entry_of, part_up_to, value_under};
-ghost use Rattle.craig_watch.specs.Held.{IsComplete, IsConsistent, IsTaken, MayBeHeld, nothing_held, with_entry};
+ghost use Rattle.craig_watch.specs.Held.{IsComplete, IsConsistent, IsFalsified, IsLengthened, IsRefused, MayBeHeld, nothing_held, with_decision, with_held};
+ghost use Rattle.craig_watch.specs.Watches.{AreWatchers, without_all};
 ghost use Rattle.craig_watch.specs.declared.value.Value.TheVariants.{Free};
 
-use crate::trail_entry::TrailEntry;
 use crate::value::Value;
+use crate::watched::Watched;
 use craig_base::{Arena, ClauseId, Flags, Lit, Var};
 use std::alloc::{AllocError, Global};
 use std::marker::Model;
@@ -26,26 +27,21 @@ use std::marker::Model;
 /// answer `AllocError` does so.
 #[derive(Drop)]
 pub struct Held {
-    arena: Arena,
-    trail: Vec<Lit>,
-    // the literals on the trail again, with their levels and reasons
-    entries: Vec<TrailEntry>,
-    // by variable, its place on the trail
-    places: Vec<Option<usize>>,
+    // the clauses, the trail and the lists of watches
+    watched: Watched,
     dead: bool,
 }
 
 impl Model for Held {
-    ghost use Rattle.std.specs.Prelude.{length, vec_capacity};
     ghost use Rattle.craig_watch.specs.Trail.{decisions};
-    ghost use Rattle.craig_watch.specs.Held.{HeldView, IsConsistent};
-    ghost use Rattle.craig_watch.specs.HeldFields.{IsStored};
+    ghost use Rattle.craig_watch.specs.Held.{HeldView};
+    ghost use Rattle.craig_watch.specs.WatchedState.{IsSound};
 
     ghost Value = { HeldView };
 
-    ghost view = { λ h. record { arena = h.arena; vars = length h.places.items; trail = h.entries.items; level = decisions h.entries.items; dead = h.dead } };
+    ghost view = { λ h. record { arena = h.watched.arena; vars = h.watched.assigned.vars; trail = h.watched.assigned.trail; level = decisions h.watched.assigned.trail; dead = h.dead } };
 
-    ghost invariant = { λ h. IsStored h.trail.items h.entries.items h.places.items (vec_capacity h.trail) (vec_capacity h.entries) × IsConsistent (record { arena = h.arena; vars = length h.places.items; trail = h.entries.items; level = decisions h.entries.items; dead = h.dead }) };
+    ghost invariant = { λ h. IsSound h.watched };
 }
 
 impl Held {
@@ -54,10 +50,7 @@ impl Held {
         ensures { result ≡ nothing_held }
     {
         Held {
-            arena: Arena::new(alloc),
-            trail: Vec::new(alloc),
-            entries: Vec::new(alloc),
-            places: Vec::new(alloc),
+            watched: Watched::new(alloc),
             dead: false,
         }
     }
@@ -78,23 +71,9 @@ impl Held {
         }
         self.dead = true;
         if vars > self.vars() {
-            self.make_known(vars as usize)?;
+            self.watched.grow(vars as usize)?;
         }
         self.dead = false;
-        Ok(())
-    }
-
-    /// Makes the variables below the number known. After an error all is as before.
-    fn make_known(&mut self, vars: usize) -> Result<(), AllocError>
-        requires more { self.old.vars ≤ vars }
-        requires few { vars ≤ 2147483648 }
-        ensures known { OnOk result (self.new ≡ record self.old { vars = vars }) }
-        ensures unchanged { OnErr result (self.new ≡ self.old) }
-    {
-        self.trail.reserve(vars.saturating_sub(self.trail.len()))?;
-        self.entries
-            .reserve(vars.saturating_sub(self.entries.len()))?;
-        self.places.resize(vars, None)?;
         Ok(())
     }
 
@@ -113,7 +92,7 @@ impl Held {
             return Err(AllocError);
         }
         self.dead = true;
-        let id = self.arena.number()?;
+        let id = self.watched.number()?;
         self.dead = false;
         Ok(id)
     }
@@ -123,7 +102,7 @@ impl Held {
         requires normal { IsNormal lits.now }
         requires known { All (λ l. l.var < self.old.vars) lits.now }
         requires fits { MayBeHeld self.old lits.now }
-        ensures held { OnOk result (self.new ≡ record self.old { arena = with_clause self.old.arena (record { literals = lits.now; flags = flags }) }) }
+        ensures held { OnOk result (self.new ≡ with_held self.old lits.now flags) }
         ensures next { IfOk result (λ id. id.0 ≡ self.old.arena.given) }
         ensures fresh { IfOk result (λ id. clause_at self.old.arena id.0 ≡ None) }
         ensures only { IfOk result (λ id. ChangesOnly self.old.arena self.new.arena id.0 (Some (record { literals = lits.now; flags = flags }))) }
@@ -137,7 +116,7 @@ impl Held {
             return Err(AllocError);
         }
         self.dead = true;
-        let id = self.arena.add(lits, flags)?;
+        let id = self.watched.hold(lits, flags)?;
         self.dead = false;
         Ok(id)
     }
@@ -150,7 +129,21 @@ impl Held {
         ensures only { ChangesOnly self.old.arena self.new.arena id.0 None }
         ensures consistent { IsConsistent self.new }
     {
-        self.arena.kill(id);
+        self.watched.let_go(id);
+    }
+
+    /// Lets held clauses go, each of which is the reason of no literal on the trail, and closes the gaps that they leave.
+    /// The cost is that of one walk over all clauses and over the lists of all literals, however many clauses go.
+    pub fn let_go_all(&mut self, ids: &[ClauseId])
+        requires live { All (λ id. IsLive self.old.arena id.0) ids.now }
+        requires distinct { AllPairs (λ i j. i ≢ j) ids.now }
+        requires no_reason { All (λ id. All (λ e. e.reason ≢ Some id) self.old.trail) ids.now }
+        ensures without { self.new ≡ record self.old { arena = without_all self.old.arena ids.now } }
+        ensures gone { All (λ id. clause_at self.new.arena id.0 ≡ None) ids.now }
+        ensures others { (k : ℕ) → All (λ id. k ≢ id.0) ids.now → clause_at self.new.arena k ≡ clause_at self.old.arena k }
+        ensures consistent { IsConsistent self.new }
+    {
+        self.watched.let_go_all(ids);
     }
 
     /// Sets the flags of a held clause.
@@ -160,7 +153,7 @@ impl Held {
         ensures only { ChangesClause self.old.arena self.new.arena id.0 (λ c. record c { flags = flags }) }
         ensures consistent { IsConsistent self.new }
     {
-        self.arena.set_flags(id, flags);
+        self.watched.set_flags(id, flags);
     }
 
     /// Opens a level and assigns the literal as its decision.
@@ -168,26 +161,10 @@ impl Held {
         requires known { lit.var < self.old.vars }
         requires free { value_under self.old.trail lit ≡ Free }
         requires complete { IsComplete self.old.arena self.old.trail }
-        ensures decided { self.new ≡ record self.old { trail = self.old.trail ++ record { literal = lit; level = self.old.level + 1; reason = None } ∷ []; level = self.old.level + 1 } }
+        ensures decided { self.new ≡ with_decision self.old lit }
         ensures consistent { IsConsistent self.new }
     {
-        let level = self.level() + 1;
-        self.assign(TrailEntry {
-            literal: lit,
-            level,
-            reason: None,
-        });
-    }
-
-    /// Puts a literal last on the trail.
-    pub(crate) fn assign(&mut self, entry: TrailEntry)
-        requires { IsConsistent (with_entry self.old entry) }
-        ensures { self.new ≡ with_entry self.old entry }
-    {
-        let place = self.trail.len();
-        self.places[entry.literal.var().0 as usize] = Some(place);
-        let _ = self.trail.push(entry.literal);
-        let _ = self.entries.push(entry);
+        self.watched.decide(lit);
     }
 
     /// Goes back to a level that is not above the present one. The variables of higher levels become free, and
@@ -197,22 +174,7 @@ impl Held {
         ensures back { self.new ≡ record self.old { trail = part_up_to level self.old.trail; level = level } }
         ensures consistent { IsConsistent self.new }
     {
-        while self.level() > level {
-            self.take_last();
-        }
-    }
-
-    /// Takes the last literal from the trail.
-    fn take_last(&mut self)
-        requires { 0 < length self.old.trail }
-        ensures taken { IsTaken self.old self.new }
-        ensures consistent { IsConsistent self.new }
-    {
-        let Some(lit) = self.trail.pop() else {
-            unreachable!();
-        };
-        self.entries.pop();
-        self.places[lit.var().0 as usize] = None;
+        self.watched.back_to(level);
     }
 
     /// What the trail says of a literal of a known variable.
@@ -220,11 +182,7 @@ impl Held {
         requires { lit.var < self.now.vars }
         ensures { result ≡ value_under self.now.trail lit }
     {
-        match self.entry(lit.var()) {
-            None => Value::Free,
-            Some(entry) if entry.literal.negated() == lit.negated() => Value::True,
-            Some(_) => Value::False,
-        }
+        self.watched.assigned.value(lit)
     }
 
     /// The level at which a variable was assigned.
@@ -232,7 +190,7 @@ impl Held {
         requires { IsAssigned self.now.trail var.0 }
         ensures { option_map (λ e. e.level) (entry_of self.now.trail var.0) ≡ Some result }
     {
-        self.entries[self.place_of(var)].level
+        self.watched.assigned.entry(var).level
     }
 
     /// The clause that forced a variable that is assigned, and none where it was decided.
@@ -240,7 +198,7 @@ impl Held {
         requires { IsAssigned self.now.trail var.0 }
         ensures { option_map (λ e. e.reason) (entry_of self.now.trail var.0) ≡ Some result }
     {
-        self.entries[self.place_of(var)].reason
+        self.watched.assigned.entry(var).reason
     }
 
     /// The position on the trail of a variable that is assigned, counted from 0.
@@ -249,10 +207,7 @@ impl Held {
         ensures within { result < length self.now.trail }
         ensures entry { slice_get self.now.trail result ≡ entry_of self.now.trail var.0 }
     {
-        match self.places[var.0 as usize] {
-            Some(place) => place,
-            None => unreachable!(),
-        }
+        self.watched.assigned.place_of(var)
     }
 
     /// The present decision level, 0 before the first decision.
@@ -260,10 +215,7 @@ impl Held {
         ensures value { result ≡ self.now.level }
         ensures consistent { IsConsistent self.now }
     {
-        match self.entries.last() {
-            Some(entry) => entry.level,
-            None => 0,
-        }
+        self.watched.assigned.level()
     }
 
     /// The number of known variables: they are those below it.
@@ -271,14 +223,14 @@ impl Held {
         ensures value { result ≡ self.now.vars }
         ensures consistent { IsConsistent self.now }
     {
-        self.places.len() as u32
+        self.watched.assigned.vars()
     }
 
     /// Whether the variable is known.
     pub fn known(&self, var: Var) -> bool
         ensures { result ≡ nat_lt var.0 self.now.vars }
     {
-        (var.0 as usize) < self.places.len()
+        var.0 < self.vars()
     }
 
     /// The held clauses.
@@ -286,7 +238,7 @@ impl Held {
         ensures value { result.now ≡ self.now.arena }
         ensures consistent { IsConsistent self.now }
     {
-        &self.arena
+        &self.watched.arena
     }
 
     /// The true literals in the order in which they were assigned.
@@ -294,23 +246,36 @@ impl Held {
         ensures value { result.now ≡ map (λ e. e.literal) self.now.trail }
         ensures consistent { IsConsistent self.now }
     {
-        self.trail.as_slice()
+        self.watched.assigned.literals()
     }
 
-    /// Whether memory was refused.
-    pub(crate) fn is_dead(&self) -> bool
-        ensures value { result ≡ self.now.dead }
-        ensures consistent { IsConsistent self.now }
+    /// The ids of the held clauses of two or more literals that have this one among their first two, in any order.
+    pub fn watchers(&self, lit: Lit) -> &[ClauseId]
+        requires { lit.var < self.now.vars }
+        ensures { AreWatchers self.now.arena lit result.now }
     {
-        self.dead
+        self.watched.lists.ids(lit)
     }
 
-    /// The entry that assigns a known variable.
-    fn entry(&self, var: Var) -> Option<TrailEntry>
-        requires { var.0 < self.now.vars }
-        ensures { result ≡ entry_of self.now.trail var.0 }
+    /// Assigns what held clauses force until nothing changes or a held clause is false, whose id is given then.
+    /// Propagation is complete where none is given. The literals of a clause may change their order. After an error
+    /// nothing is said of the trail but that it is consistent.
+    pub fn propagate(&mut self) -> Result<Option<ClauseId>, AllocError>
+        ensures lengthened { OnOk result (IsLengthened self.old self.new) }
+        ensures complete { IfOk result (λ conflict. conflict ≡ None → IsComplete self.new.arena self.new.trail) }
+        ensures falsified { IfOk result (λ conflict. IfSome conflict (λ id. IsFalsified self.new id.0)) }
+        ensures alive { OnOk result (self.new.dead ≡ false) }
+        ensures dead { OnErr result (self.new.dead ≡ true) }
+        ensures refused { self.old.dead ≡ true → IsErr result }
+        ensures same_clauses { OnErr result (IsRefused self.old self.new) }
+        ensures consistent { IsConsistent self.new }
     {
-        let place = self.places[var.0 as usize]?;
-        Some(self.entries[place])
+        if self.dead {
+            return Err(AllocError);
+        }
+        self.dead = true;
+        let conflict = self.watched.propagate()?;
+        self.dead = false;
+        Ok(conflict)
     }
 }

@@ -2,17 +2,23 @@
 //!
 //! `Held` owns the clauses and the trail, the list of the literals that are assigned, each with its decision
 //! level and the clause that forced it. A decision opens a level, and going back takes the later levels from the
-//! trail again. Propagation walks all held clauses until nothing changes; a later body may watch two literals of
-//! each clause. Which clause becomes a reason, and which false clause is reported, is not promised.
+//! trail again. Propagation watches two literals of each clause. Which clause becomes a reason, and which false
+//! clause is reported, is not promised.
 #![tactic(auto)]
 
+mod assigned;
+mod beside;
 mod held;
+mod keeping;
 pub mod laws;
-mod progress;
-mod propagation;
-mod standing;
+mod looking;
 mod trail_entry;
 mod value;
+mod visit;
+mod visiting;
+mod watch_list;
+mod watch_lists;
+mod watched;
 
 pub use held::Held;
 pub use value::Value;

@@ -1,18 +1,8 @@
-use Rattle.craig_watch.proofs.HeldLemmas.{IsConsistent-added}
+use Rattle.craig_watch.proofs.ShownLemmas.{consistent-shown}
 use Rattle.craig_watch.proofs.held.Held.hold.Goals as goal
 
-pub invariant_of-self : goal.invariant_of-self
-invariant_of-self c =
-    (c.self.invariant.0, IsConsistent-added _ c.add.new.self _ _ c.add.result c.self.invariant.1 c.add.ensures.is_arena c.add.ensures.next c.add.ensures.only c.add.ensures.unchanged c.requires.normal (rw (← c.self.view_is) at c.requires.known) (rw (← c.self.view_is) at c.requires.fits))
+pub returns-then-self-clause-consistent : goal.returns-then-self-clause-consistent
+returns-then-self-clause-consistent c = rw (← c.self.view_is) (consistent-shown c.self.inside.watched c.self.inside.dead c.self.invariant)
 
-pub invariant_of-self-2 : goal.invariant_of-self-2
-invariant_of-self-2 c =
-    (c.self.invariant.0, IsConsistent-added _ c.add.new.self _ _ c.add.result c.self.invariant.1 c.add.ensures.is_arena c.add.ensures.next c.add.ensures.only c.add.ensures.unchanged c.requires.normal (rw (← c.self.view_is) at c.requires.known) (rw (← c.self.view_is) at c.requires.fits))
-
-pub returns-clause-consistent : goal.returns-clause-consistent
-returns-clause-consistent c =
-    IsConsistent-added _ c.add.new.self _ _ c.add.result c.self.invariant.1 c.add.ensures.is_arena c.add.ensures.next c.add.ensures.only c.add.ensures.unchanged c.requires.normal (rw (← c.self.view_is) at c.requires.known) (rw (← c.self.view_is) at c.requires.fits)
-
-pub returns-in_err-id-clause-consistent : goal.returns-in_err-id-clause-consistent
-returns-in_err-id-clause-consistent c =
-    IsConsistent-added _ c.add.new.self _ _ c.add.result c.self.invariant.1 c.add.ensures.is_arena c.add.ensures.next c.add.ensures.only c.add.ensures.unchanged c.requires.normal (rw (← c.self.view_is) at c.requires.known) (rw (← c.self.view_is) at c.requires.fits)
+pub hold-requires-clause-fits : goal.hold-requires-clause-fits
+hold-requires-clause-fits c = rw (← c.self.view_is) at c.requires.fits

@@ -1,18 +1,5 @@
-use Rattle.craig_watch.proofs.HeldLemmas.{IsConsistent-numbered}
+use Rattle.craig_watch.proofs.ShownLemmas.{consistent-shown}
 use Rattle.craig_watch.proofs.held.Held.number.Goals as goal
 
-pub invariant_of-self : goal.invariant_of-self
-invariant_of-self c =
-    (c.self.invariant.0, IsConsistent-numbered _ c.number.new.self _ c.number.result c.self.invariant.1 c.number.ensures.is_arena c.number.ensures.numbered c.number.ensures.unchanged)
-
-pub invariant_of-self-2 : goal.invariant_of-self-2
-invariant_of-self-2 c =
-    (c.self.invariant.0, IsConsistent-numbered _ c.number.new.self _ c.number.result c.self.invariant.1 c.number.ensures.is_arena c.number.ensures.numbered c.number.ensures.unchanged)
-
-pub returns-clause-consistent : goal.returns-clause-consistent
-returns-clause-consistent c =
-    IsConsistent-numbered _ c.number.new.self _ c.number.result c.self.invariant.1 c.number.ensures.is_arena c.number.ensures.numbered c.number.ensures.unchanged
-
-pub returns-in_err-id-clause-consistent : goal.returns-in_err-id-clause-consistent
-returns-in_err-id-clause-consistent c =
-    IsConsistent-numbered _ c.number.new.self _ c.number.result c.self.invariant.1 c.number.ensures.is_arena c.number.ensures.numbered c.number.ensures.unchanged
+pub returns-then-self-clause-consistent : goal.returns-then-self-clause-consistent
+returns-then-self-clause-consistent c = rw (← c.self.view_is) (consistent-shown c.self.inside.watched c.self.inside.dead c.self.invariant)

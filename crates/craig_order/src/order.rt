@@ -1,14 +1,19 @@
-//! The order in which free variables are decided: for now that of their numbers, of no other source.
+//! The order in which free variables are decided, and with which phase.
+//!
+//! By scores that conflicts raise, in a heap: Eén and Sörensson, "An Extensible SAT-solver", SAT 2003. Which free variable
+//! comes first and with which phase is not promised.
 ghost use Rattle.std.specs.Prelude.{◌≡◌, ◌≢◌, ℕ, ◌<◌, ◌≤◌, true, false, None, IfSome, OnOk, OnErr, IsErr, length};
 ghost use Rattle.craig_watch.specs.Trail.{value_under};
 ghost use Rattle.craig_watch.specs.declared.value.Value.TheVariants.{Free};
 ghost use Rattle.craig_order.specs.Order.{nothing_known, is_given_back, IsGrown, IsGivenBack, IsFree, FreeAreGivenBack, CountsAsBefore};
 
+use crate::heap::Heap;
+use crate::phases::Phases;
+use crate::scores::Scores;
 use craig_base::{Lit, Var};
 use craig_watch::{Held, Value};
 use std::alloc::{AllocError, Global};
 use std::marker::Model;
-use std::mem;
 
 /// Which variable is decided next.
 ///
@@ -17,22 +22,24 @@ use std::mem;
 /// `AllocError` the value is dead, and each later call that can answer `AllocError` does so.
 #[derive(Drop)]
 pub struct Order {
-    // by variable, whether it was given back
-    given_back: Vec<bool>,
-    // no variable below it counts as given back
-    lowest: usize,
+    // the variables that count as given back
+    heap: Heap,
+    // for at least the known variables
+    scores: Scores,
+    // for at least the known variables
+    phases: Phases,
     dead: bool,
 }
 
 impl Model for Order {
-    ghost use Rattle.std.specs.Prelude.{◌≡◌, ℕ, ◌<◌, ◌≤◌, false, length, slice_index_or};
     ghost use Rattle.craig_order.specs.Order.{OrderView};
+    ghost use Rattle.craig_order.specs.Heap.{HaveRoom};
 
     ghost Value = { OrderView };
 
-    ghost view = { λ o. record { given_back = o.given_back.items; dead = o.dead } };
+    ghost view = { λ o. record { given_back = o.heap.stands; dead = o.dead } };
 
-    ghost invariant = { λ o. (length o.given_back.items ≤ 2147483648) × (o.lowest ≤ length o.given_back.items) × ((v : ℕ) → v < o.lowest → slice_index_or o.given_back.items v false ≡ false) };
+    ghost invariant = { λ o. HaveRoom o.heap.stands o.scores o.phases };
 }
 
 impl Order {
@@ -41,8 +48,9 @@ impl Order {
         ensures { result ≡ nothing_known }
     {
         Order {
-            given_back: Vec::new(alloc),
-            lowest: 0,
+            heap: Heap::new(alloc),
+            scores: Scores::new(alloc),
+            phases: Phases::new(alloc),
             dead: false,
         }
     }
@@ -60,33 +68,39 @@ impl Order {
             return Err(AllocError);
         }
         self.dead = true;
-        if vars as usize > self.given_back.len() {
-            self.given_back.resize(vars as usize, true)?;
+        let vars = vars as usize;
+        if vars > self.heap.len() {
+            self.scores.grow(vars)?;
+            self.phases.grow(vars)?;
+            self.heap.grow(vars)?;
         }
         self.dead = false;
         Ok(())
     }
 
-    /// Raises the score of a known variable. No variable has a score yet.
+    /// Raises the score of a known variable.
     pub fn bump(&mut self, var: Var)
         requires { var.0 < length self.old.given_back }
         ensures { self.new ≡ self.old }
     {
-        let _ = var;
+        self.scores.bump(var.0 as usize);
+        self.heap.raise(&self.scores, var);
     }
 
-    /// Makes later raises of scores count for more. No variable has a score yet.
+    /// Makes later raises of scores count for more.
     pub fn decay(&mut self)
         ensures { self.new ≡ self.old }
-    {}
+    {
+        self.scores.decay();
+    }
 
-    /// Saves the phase of a known variable: the literal of it that was true. A variable is decided false for now,
-    /// whatever was saved.
+    /// Saves the phase of a known variable: the literal of it that was true. A variable is decided as it was saved last,
+    /// and false where it was not.
     pub fn save(&mut self, lit: Lit)
         requires { lit.var < length self.old.given_back }
         ensures { self.new ≡ self.old }
     {
-        let _ = lit;
+        self.phases.save(lit);
     }
 
     /// Says that a known variable may be decided again.
@@ -94,9 +108,7 @@ impl Order {
         requires { var.0 < length self.old.given_back }
         ensures { IsGivenBack self.old self.new var.0 }
     {
-        let place = var.0 as usize;
-        self.given_back[place] = true;
-        self.lowest = self.lowest.min(place);
+        self.heap.insert(&self.scores, var);
     }
 
     /// A free literal to decide, and `None` exactly where every variable is assigned. The variable of the answer
@@ -109,57 +121,12 @@ impl Order {
         ensures none { result ≡ None → (v : ℕ) → ¬ IsFree held.now v }
         ensures others { CountsAsBefore held.now self.old self.new (λ v. IfSome result (λ l. v ≢ l.var)) }
     {
-        while self.lowest < self.given_back.len() {
-            let place = self.lowest;
-            self.lowest += 1;
-            let lit = Lit::new(Var(place as u32), true);
-            if mem::replace(&mut self.given_back[place], false) && held.value(lit) == Value::Free {
+        while let Some(var) = self.heap.pop(&self.scores) {
+            let lit = self.phases.literal(var);
+            if held.value(lit) == Value::Free {
                 return Some(lit);
             }
         }
         None
-    }
-}
-
-#[cfg(test)]
-mod tests {
-    use super::*;
-    use craig_base::Flags;
-    use std::test::Fail;
-
-    const FLAGS: Flags = Flags {
-        learnt: false,
-        kept: false,
-        glue: 0,
-    };
-
-    #[test]
-    fn a_free_variable_is_decided_and_given_back(rt: HostRuntime) -> Result<(), Fail> {
-        let mut held = Held::new(rt.alloc());
-        let mut order = Order::new(rt.alloc());
-        held.grow(2)?;
-        order.grow(2)?;
-        order.bump(Var(1));
-        order.decay();
-        order.save(Lit::new(Var(1), true));
-        let Some(lit) = order.next(&held) else {
-            panic!(rt; "two variables are free");
-        };
-        assert!(rt; lit.negated());
-        order.give_back(lit.var());
-        Ok(())
-    }
-
-    #[test]
-    fn nothing_is_decided_where_all_is_assigned(rt: HostRuntime) -> Result<(), Fail> {
-        let mut held = Held::new(rt.alloc());
-        let mut order = Order::new(rt.alloc());
-        held.grow(2)?;
-        order.grow(2)?;
-        held.hold(&[Lit::new(Var(0), false)], FLAGS)?;
-        held.hold(&[Lit::new(Var(1), false)], FLAGS)?;
-        assert!(rt; held.propagate()?.is_none());
-        assert_eq!(rt; order.next(&held), None);
-        Ok(())
     }
 }

@@ -8,9 +8,8 @@ use Rattle.craig_spec.proofs.LiteralLemmas.{negation_twice, same_or_not}
 use Rattle.craig_spec.proofs.ClauseLemmas.{SameLiterals-refl, SameLiterals-sym}
 use Rattle.craig_watch.specs.Trail.{Trail, IsFalse, AreDistinct}
 use Rattle.craig_watch.specs.Held.{Forces}
-use Rattle.craig_watch.proofs.PlacesLemmas.{IsFalse-take}
 use Rattle.craig_analyze.specs.Resolvent.{at_place, negated_at}
-use Rattle.craig_analyze.proofs.PlaceLemmas.{false-not_both, false-within, same_place}
+use Rattle.craig_analyze.proofs.PlaceLemmas.{false-within, same_place}
 
 -- a resolvent of a clause is one of another with the same literals
 IsResolvent-same : (p : Literal) (c c2 d r : Clause) → SameLiterals c c2 → IsResolvent p c d r → IsResolvent p c2 d r
@@ -43,9 +42,9 @@ place-not_false t place apart within h =
     let low : at.0 < place = at.1 in
     omega arith
 
--- a false clause with the negation of the literal at a place, resolved with the reason of the literal
-pub resolves-with_reason : (t : Trail) (place : ℕ) (extra old new reason : Clause) → AreDistinct t → place < length t → Forces (take place t) reason (at_place t place).literal → ((l : Literal) → Contains (extra ++ negated_at t place ∷ old) l → IsFalse t l) → ¬ Contains extra (negated_at t place) → ¬ Contains old (negated_at t place) → ((l : Literal) → Contains new l ↔ (Contains old l ⊎ (Contains reason l × IsFalse (take place t) l))) → IsResolvent (negated_at t place) (extra ++ negated_at t place ∷ old) reason (extra ++ new)
-resolves-with_reason t place extra old new reason apart within forces falsified not_extra not_old met =
+-- a clause with the negation of the literal at a place, whose other negations are not false before it, resolved with the reason of the literal
+pub resolves-with_reason : (t : Trail) (place : ℕ) (extra old new reason : Clause) → AreDistinct t → place < length t → Forces (take place t) reason (at_place t place).literal → ((l : Literal) → Contains (extra ++ negated_at t place ∷ old) l → ¬ IsFalse (take place t) (negation l)) → ¬ Contains extra (negated_at t place) → ¬ Contains old (negated_at t place) → ((l : Literal) → Contains new l ↔ (Contains old l ⊎ (Contains reason l × IsFalse (take place t) l))) → IsResolvent (negated_at t place) (extra ++ negated_at t place ∷ old) reason (extra ++ new)
+resolves-with_reason t place extra old new reason apart within forces apart_from not_extra not_old met =
     let pivot : Literal = negated_at t place in
     let lit : Literal = (at_place t place).literal in
     let back : negation pivot ≡ lit = negation_twice lit in
@@ -54,7 +53,7 @@ resolves-with_reason t place extra old new reason apart within forces falsified 
       second_has = subst (Contains reason) (sym back) forces.has;
       no_other = λ l here there. elim (same_or_not (negation l) lit) [
         | inl same ↦ sym (negation_twice l) ∙ ap negation same
-        | inr differ ↦ absurd (false-not_both t l apart (falsified l here) (IsFalse-take place t (negation l) (forces.others (negation l) there differ)))
+        | inr differ ↦ absurd (apart_from l here (forces.others (negation l) there differ))
       ];
       literals = λ l. (
         λ h. elim (Contains-append_cases extra new l h) [

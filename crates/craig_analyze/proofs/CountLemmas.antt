@@ -3,15 +3,13 @@ use Rattle.std.proofs.Common.{◌≡◌, ◌≢◌, ℕ, suc, zero, ◌+◌, ◌
 use Rattle.std.specs.List.Sorted.{IsPermutation}
 use Rattle.std.proofs.lemmas.Grind.{common_steps}
 use Rattle.std.proofs.lemmas.Bool.{eqb-false}
-use Rattle.std.proofs.lemmas.List.Sums.{sum_by-append, sum_by-cons}
+use Rattle.std.proofs.lemmas.List.Sums.{sum_by-append}
 use Rattle.std.proofs.lemmas.List.Sorted.{sum_by-IsPermutation}
 use Rattle.craig_spec.proofs.MemberLemmas.{Contains-front, Contains-later}
 use Rattle.craig_base.specs.Counting.{count_of, NoneMoreThan}
 use Rattle.craig_watch.proofs.TrailLemmas.{at_most_one}
 use Rattle.craig_analyze.specs.Marks.{AreMarks, IsMarked}
-
-pub count_of-cons : (n x : ℕ) (xs : List ℕ) → count_of n (x ∷ xs) ≡ cond (eqb n x) 1 0 + count_of n xs
-count_of-cons n x xs = sum_by-cons (λ z. cond (eqb n z) 1 0) x xs
+use Rattle.craig_base.proofs.CountingLemmas.{count_of-cons}
 
 count_of-one : (n x : ℕ) → count_of n (x ∷ []) ≡ cond (eqb n x) 1 0
 count_of-one n x = grind (arith, common_steps)

@@ -7,6 +7,8 @@ use Rattle.craig_spec.specs.Literal.{Clause}
 use Rattle.craig_base.specs.Arena.{ArenaView, FlaggedClause, IsLive, clause_at, literals_at}
 use Rattle.craig_watch.specs.Trail.{Trail, IsFalse, IsAssigned}
 use Rattle.craig_watch.specs.Held.{HeldView, held_clause, IsFalsified}
+use Rattle.craig_analyze.specs.declared.staying.Staying.{Staying}
+use Rattle.craig_analyze.specs.declared.staying.Staying.TheVariants.{InnerLevels}
 use Rattle.craig_analyze.specs.Resolvent.{ResolventView, IsUnresolved, Meets, HasBegun}
 use Rattle.craig_analyze.proofs.PlaceLemmas.{false-assigned}
 
@@ -26,11 +28,11 @@ falsified-assigned h id (c, held, falsified) =
 abbrev pub nothing : ResolventView
 nothing = record { marked = []; pending = []; lower = [] }
 
-no_member : {X : Type 0} (x : X) → ¬ Contains [] x
+pub no_member : {X : Type 0} (x : X) → ¬ Contains [] x
 no_member x (k, within, is) = let no : k < 0 = within in omega arith
 
 -- without literals the clause is under way
-pub IsUnresolved-nothing : (h : HeldView) → IsUnresolved h (length h.trail) nothing
+pub IsUnresolved-nothing : {k : Staying} (h : HeldView) → IsUnresolved k h (length h.trail) nothing
 IsUnresolved-nothing h = record {
   within = omega arith;
   below = λ k d w. absurd (omega arith);
@@ -45,12 +47,12 @@ IsUnresolved-nothing h = record {
 }
 
 -- the literals of a false clause came in
-pub HasBegun-met : (h : HeldView) (id : ℕ) (old new : ResolventView) → IsFalsified h id → old ≡ nothing → Meets h (literals_at h.arena id) old new → HasBegun h id new
+pub HasBegun-met : (h : HeldView) (id : ℕ) (old new : ResolventView) → IsFalsified h id → old ≡ nothing → Meets InnerLevels h (literals_at h.arena id) old new → HasBegun h id new
 HasBegun-met h id old new (c, held, falsified) empty met =
     let t : Trail = h.trail in
     let literals : literals_at h.arena id ≡ c = (held-live h.arena id c held).1 in
     let whole : take (length t) t ≡ t = take_all (length t) t (omega arith) in
-    let from_nothing : Meets h c nothing new = subst (λ (d : Clause). Meets h d nothing new) literals (subst (λ (s : ResolventView). Meets h (literals_at h.arena id) s new) empty met) in
+    let from_nothing : Meets InnerLevels h c nothing new = subst (λ (d : Clause). Meets InnerLevels h d nothing new) literals (subst (λ (s : ResolventView). Meets InnerLevels h (literals_at h.arena id) s new) empty met) in
     let false_here : All (IsFalse (take (length t) t)) c = subst (λ (u : Trail). All (IsFalse u) c) (sym whole) falsified in
     let has = from_nothing (length t) (IsUnresolved-nothing h) (λ k d w. inl (false_here k d w)) in
     record {

@@ -10,6 +10,7 @@ use Rattle.craig_watch.specs.Trail.{Trail, IsFalse, IsAssigned, level_at}
 use Rattle.craig_watch.specs.Held.{HeldView, held_clause, IsConsistent}
 use Rattle.craig_analyze.specs.declared.learnt.Learnt.{Learnt}
 use Rattle.craig_analyze.specs.Learnt.{IsDerived, IsAssertingClause, IsGreatestOf, IsNumberOfDifferent}
+use Rattle.craig_analyze.specs.declared.staying.Staying.TheVariants.{InnerLevels}
 use Rattle.craig_analyze.specs.Resolvent.{ResolventView, at_place, negated_at, resolvent_of, IsEndLevel, IsUnresolved, HasBegun, HasPresent, HasFound, HasEnded, Leads}
 use Rattle.craig_analyze.proofs.PlaceLemmas.{place-false, level_at-place, false-assigned, false-not_both}
 use Rattle.craig_analyze.proofs.ResolventLemmas.{has-cases}
@@ -36,13 +37,13 @@ found-level : (h : HeldView) (first : Literal) (before after : List ChainStep) (
 found-level h first before after old s ok f = ap (level_at h.trail) f.first_is ∙ level_at-place h.trail f.place ok.distinct f.within ∙ f.level
 
 -- what is left of the resolvent
-ended-lower : (h : HeldView) (before after : List ChainStep) (old s : ResolventView) → HasEnded h before after old s → resolvent_of h.trail s ≡ s.lower
+pub ended-lower : (h : HeldView) (before after : List ChainStep) (old s : ResolventView) → HasEnded h before after old s → resolvent_of h.trail s ≡ s.lower
 ended-lower h before after old s e = ap (λ (places : List ℕ). map (negated_at h.trail) places ++ s.lower) e.none
 
-pub lower-assigned : (h : HeldView) (b : ℕ) (s : ResolventView) → IsUnresolved h b s → All (λ l. IsAssigned h.trail l.var) s.lower
+pub lower-assigned : (h : HeldView) (b : ℕ) (s : ResolventView) → IsUnresolved InnerLevels h b s → All (λ l. IsAssigned h.trail l.var) s.lower
 lower-assigned h b s u = All-weaker (IsFalse h.trail) (λ l. IsAssigned h.trail l.var) (λ l. false-assigned h.trail l) s.lower u.lower_false
 
-apart-cons : (x : Literal) (xs : Clause) → ((k : ℕ) (d : Literal) → k < length xs → x.var ≢ (get_or xs k d).var) → AllPairs (λ l m. l.var ≢ m.var) xs → AllPairs (λ l m. l.var ≢ m.var) (x ∷ xs)
+pub apart-cons : (x : Literal) (xs : Clause) → ((k : ℕ) (d : Literal) → k < length xs → x.var ≢ (get_or xs k d).var) → AllPairs (λ l m. l.var ≢ m.var) xs → AllPairs (λ l m. l.var ≢ m.var) (x ∷ xs)
 apart-cons x xs first rest zero zero d before within = absurd (omega arith)
 apart-cons x xs first rest zero (suc j) d before within = first j d (omega arith)
 apart-cons x xs first rest (suc i) zero d before within = absurd (omega arith)

@@ -8,3 +8,5 @@ mod HeldClauseLemmas
 mod WalkLemmas
 mod LoopLemmas
 mod LearntLemmas
+mod ForcingLemmas
+mod CoreLemmas

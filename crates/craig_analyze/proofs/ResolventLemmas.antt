@@ -1,20 +1,24 @@
 -- The resolvent when literals come in and when a place is taken out.
-use Rattle.std.proofs.Common.{◌≡◌, ◌≢◌, ◌⊎◌, ◌↔◌, inl, inr, ℕ, ◌+◌, ◌<◌, ◌≤◌, Bool, true, false, cond, eqb, List, [], ◌∷◌, ◌++◌, length, take, map, All, Contains, refl, sym, ap, subst, ◌∙◌, arith, eqb-true}
+use Rattle.std.proofs.Common.{◌≡◌, ◌≢◌, ◌⊎◌, ◌↔◌, inl, inr, ℕ, ◌+◌, ◌<◌, ◌≤◌, Bool, true, false, cond, eqb, List, [], ◌∷◌, ◌++◌, Some, length, take, map, All, Contains, refl, sym, ap, subst, ◌∙◌, arith, eqb-true}
 use Rattle.std.specs.List.{slice_get}
 use Rattle.std.specs.List.Sorted.{IsPermutation}
 use Rattle.std.proofs.lemmas.List.Elements.{All-push, All-cons, All-head, All-weaker, All-contains, Contains-push, Contains-push_cases, Contains-append_left, Contains-append_right, Contains-append_cases}
 use Rattle.std.proofs.lemmas.List.{get_or_append_left, length_push}
+use Rattle.std.proofs.lemmas.Option.{slice_get-get_or}
 use Rattle.std.proofs.lemmas.List.Quantifiers.{all_pairs_push}
 use Rattle.std.proofs.lemmas.List.Sorted.{All-permutation, Contains-permutation, IsPermutation-sym}
 use Rattle.craig_spec.specs.Literal.{Literal, Clause}
 use Rattle.craig_base.specs.Counting.{count_of, NoneMoreThan}
 use Rattle.craig_spec.proofs.MemberLemmas.{Contains-cases, Contains-from_image, Contains-front, Contains-image, Contains-later}
-use Rattle.craig_watch.specs.Trail.{Trail, entry_of, IsFalse, level_at, AreDistinct}
+use Rattle.craig_watch.specs.Trail.{Trail, any_entry, entry_of, IsFalse, AreDistinct}
 use Rattle.craig_watch.specs.Held.{HeldView, IsConsistent}
 use Rattle.craig_watch.proofs.PlacesLemmas.{IsFalse-take}
-use Rattle.craig_analyze.specs.Resolvent.{ResolventView, at_place, negated_at, resolvent_of, IsEndLevel, IsUnresolved, MayBeMet, HasMet, Meets}
-use Rattle.craig_analyze.proofs.PlaceLemmas.{false-within, place-false, same_place, level_at-place, place-one}
-use Rattle.craig_analyze.proofs.CountLemmas.{count_of-cons, count_of-permutation, count_of-none}
+use Rattle.craig_watch.specs.declared.trail_entry.TrailEntry.{TrailEntry}
+use Rattle.craig_analyze.specs.declared.staying.Staying.{Staying}
+use Rattle.craig_analyze.specs.Resolvent.{ResolventView, at_place, negated_at, resolvent_of, IsResolvedOn, Stays, IsUnresolved, MayBeMet, HasMet, Meets}
+use Rattle.craig_analyze.proofs.PlaceLemmas.{false-within, place-false, same_place, place-one}
+use Rattle.craig_analyze.proofs.CountLemmas.{count_of-permutation, count_of-none}
+use Rattle.craig_base.proofs.CountingLemmas.{count_of-cons}
 
 -- the literals of the resolvent
 pub has-pending : (t : Trail) (s : ResolventView) (p : ℕ) → Contains s.pending p → Contains (resolvent_of t s) (negated_at t p)
@@ -31,7 +35,7 @@ has-cases t s l h =
     ]
 
 -- they are false
-pub resolvent-false : (h : HeldView) (b : ℕ) (s : ResolventView) (l : Literal) → IsConsistent h → IsUnresolved h b s → Contains (resolvent_of h.trail s) l → IsFalse h.trail l
+pub resolvent-false : {k : Staying} (h : HeldView) (b : ℕ) (s : ResolventView) (l : Literal) → IsConsistent h → IsUnresolved k h b s → Contains (resolvent_of h.trail s) l → IsFalse h.trail l
 resolvent-false h b s l ok u has =
     elim (has-cases h.trail s l has) [
       | inl pending ↦
@@ -51,9 +55,9 @@ same-false b t l m apart l_false m_false e =
     sym at_l.3 ∙ ap (negated_at t) same ∙ at_m.3
 
 -- a literal that was met before
-pub HasMet-marked : (h : HeldView) (b : ℕ) (s : ResolventView) (lit : Literal) (marked : List ℕ) → IsUnresolved h b s → Contains s.marked lit.var → marked ≡ s.marked → HasMet h b (lit ∷ []) s (record { marked = marked; pending = s.pending; lower = s.lower })
-HasMet-marked h b s lit marked u has is =
-    let same : HasMet h b (lit ∷ []) s s = record {
+pub HasMet-marked : (k : Staying) (h : HeldView) (b : ℕ) (s : ResolventView) (lit : Literal) (marked : List ℕ) → IsUnresolved k h b s → Contains s.marked lit.var → marked ≡ s.marked → HasMet k h b (lit ∷ []) s (record { marked = marked; pending = s.pending; lower = s.lower })
+HasMet-marked k h b s lit marked u has is =
+    let same : HasMet k h b (lit ∷ []) s s = record {
       unresolved = u;
       literals = λ l. (
         λ here. inl here,
@@ -67,13 +71,13 @@ HasMet-marked h b s lit marked u has is =
       );
       marked = λ v here. here;
     } in
-    subst (λ (m : List ℕ). HasMet h b (lit ∷ []) s (record { marked = m; pending = s.pending; lower = s.lower })) (sym is) same
+    subst (λ (m : List ℕ). HasMet k h b (lit ∷ []) s (record { marked = m; pending = s.pending; lower = s.lower })) (sym is) same
 
 -- a literal came in that was not met before
 abbrev Adds : Trail → Literal → ResolventView → ResolventView → Type 0
 Adds t lit old new = (l : Literal) → Contains (resolvent_of t new) l ↔ (Contains (resolvent_of t old) l ⊎ (lit ≡ l))
 
-adds-met : (h : HeldView) (b : ℕ) (lit : Literal) (old new : ResolventView) → IsConsistent h → IsUnresolved h b old → IsFalse (take b h.trail) lit → new.marked ≡ old.marked ++ lit.var ∷ [] → Adds h.trail lit old new → (l : Literal) → IsFalse (take b h.trail) l → Contains new.marked l.var → Contains (resolvent_of h.trail new) l
+adds-met : {k : Staying} (h : HeldView) (b : ℕ) (lit : Literal) (old new : ResolventView) → IsConsistent h → IsUnresolved k h b old → IsFalse (take b h.trail) lit → new.marked ≡ old.marked ++ lit.var ∷ [] → Adds h.trail lit old new → (l : Literal) → IsFalse (take b h.trail) l → Contains new.marked l.var → Contains (resolvent_of h.trail new) l
 adds-met h b lit old new ok u lit_false marked adds l l_false has =
     elim (Contains-push_cases old.marked lit.var l.var (subst (λ (m : List ℕ). Contains m l.var) marked has)) [
       | inl before ↦ (adds l).1 (inl (u.met l l_false before))
@@ -112,8 +116,8 @@ adds-lower t lit s marked l =
       ],
     )
 
-pub HasMet-lower : (h : HeldView) (b : ℕ) (s : ResolventView) (lit : Literal) (marked : List ℕ) → IsConsistent h → IsUnresolved h b s → IsFalse (take b h.trail) lit → ¬ Contains s.marked lit.var → marked ≡ s.marked ++ lit.var ∷ [] → 0 < level_at h.trail lit → level_at h.trail lit < h.level → HasMet h b (lit ∷ []) s (record { marked = marked; pending = s.pending; lower = s.lower ++ lit ∷ [] })
-HasMet-lower h b s lit marked ok u lit_false fresh is above below =
+pub HasMet-lower : (k : Staying) (h : HeldView) (b : ℕ) (s : ResolventView) (lit : Literal) (marked : List ℕ) → IsConsistent h → IsUnresolved k h b s → IsFalse (take b h.trail) lit → ¬ Contains s.marked lit.var → marked ≡ s.marked ++ lit.var ∷ [] → Stays k h lit → HasMet k h b (lit ∷ []) s (record { marked = marked; pending = s.pending; lower = s.lower ++ lit ∷ [] })
+HasMet-lower k h b s lit marked ok u lit_false fresh is stays =
     let t : Trail = h.trail in
     let new : ResolventView = record { marked = marked; pending = s.pending; lower = s.lower ++ lit ∷ [] } in
     let adds : Adds t lit s new = adds-lower t lit s marked in
@@ -125,7 +129,7 @@ HasMet-lower h b s lit marked ok u lit_false fresh is above below =
         ends = u.ends;
         pending_marked = All-weaker (λ p. Contains s.marked (at_place t p).literal.var) (λ p. Contains marked (at_place t p).literal.var) (λ p. marked-more s.marked marked lit.var (at_place t p).literal.var is) s.pending u.pending_marked;
         lower_false = All-push (IsFalse t) s.lower lit u.lower_false (IsFalse-take b t lit lit_false);
-        lower_inner = All-push (λ l. (0 < level_at t l) × (level_at t l < h.level)) s.lower lit u.lower_inner (above, below);
+        lower_inner = All-push (Stays k h) s.lower lit u.lower_inner stays;
         lower_apart = all_pairs_push (λ l m. l.var ≢ m.var) s.lower lit u.lower_apart (λ k d w e. fresh (subst (Contains s.marked) e (u.lower_marked k d w)));
         lower_marked = All-push (λ l. Contains marked l.var) s.lower lit (All-weaker (λ l. Contains s.marked l.var) (λ l. Contains marked l.var) (λ l. marked-more s.marked marked lit.var l.var is) s.lower u.lower_marked) (marked-last s.marked marked lit.var is);
         met = adds-met h b lit s new ok u lit_false is adds;
@@ -165,8 +169,8 @@ once-pushed p xs ys once fresh moved x =
     let le : cond (eqb x p) 1 0 + count_of x xs ≤ 1 = once-cases (eqb x p) x p xs refl once (count_of-none p xs fresh) in
     omega arith
 
-pub HasMet-pending : (h : HeldView) (b : ℕ) (s : ResolventView) (lit : Literal) (marked pending : List ℕ) (p : ℕ) → IsConsistent h → IsUnresolved h b s → IsFalse (take b h.trail) lit → ¬ Contains s.marked lit.var → marked ≡ s.marked ++ lit.var ∷ [] → p < length h.trail → slice_get h.trail p ≡ entry_of h.trail lit.var → IsEndLevel h (level_at h.trail lit) → IsPermutation (p ∷ s.pending) pending → HasMet h b (lit ∷ []) s (record { marked = marked; pending = pending; lower = s.lower })
-HasMet-pending h b s lit marked pending p ok u lit_false fresh is p_within found end moved =
+pub HasMet-pending : (k : Staying) (h : HeldView) (b : ℕ) (s : ResolventView) (lit : Literal) (marked pending : List ℕ) (p : ℕ) → IsConsistent h → IsUnresolved k h b s → IsFalse (take b h.trail) lit → ¬ Contains s.marked lit.var → marked ≡ s.marked ++ lit.var ∷ [] → p < length h.trail → slice_get h.trail p ≡ entry_of h.trail lit.var → ((e : TrailEntry) → entry_of h.trail lit.var ≡ Some e → IsResolvedOn k h e) → IsPermutation (p ∷ s.pending) pending → HasMet k h b (lit ∷ []) s (record { marked = marked; pending = pending; lower = s.lower })
+HasMet-pending k h b s lit marked pending p ok u lit_false fresh is p_within found end moved =
     let t : Trail = h.trail in
     let new : ResolventView = record { marked = marked; pending = pending; lower = s.lower } in
     let at = false-within b t lit lit_false in
@@ -174,7 +178,7 @@ HasMet-pending h b s lit marked pending p ok u lit_false fresh is p_within found
     let negated : negated_at t p ≡ lit = ap (negated_at t) here ∙ at.3 in
     let var : (at_place t p).literal.var ≡ lit.var = ap (λ (l : Literal). l.var) negated in
     let low : p < b = let w = at.1 in omega arith in
-    let level : level_at t lit ≡ (at_place t p).level = ap (level_at t) (sym negated) ∙ level_at-place t p ok.distinct p_within in
+    let resolved : IsResolvedOn k h (at_place t p) = end (at_place t p) (sym found ∙ slice_get-get_or t p any_entry p_within) in
     let not_there : ¬ Contains s.pending p = λ there. fresh (subst (Contains s.marked) var (All-contains (λ q. Contains s.marked (at_place t q).literal.var) s.pending p u.pending_marked there)) in
     let adds : Adds t lit s new = adds-pending t lit s marked pending p negated moved in
     record {
@@ -182,7 +186,7 @@ HasMet-pending h b s lit marked pending p ok u lit_false fresh is p_within found
         within = u.within;
         below = All-permutation (λ q. q < b) (p ∷ s.pending) pending moved (All-cons (λ q. q < b) p s.pending low u.below);
         once = once-pushed p s.pending pending u.once not_there moved;
-        ends = All-permutation (λ q. IsEndLevel h (at_place t q).level) (p ∷ s.pending) pending moved (All-cons (λ q. IsEndLevel h (at_place t q).level) p s.pending (subst (IsEndLevel h) level end) u.ends);
+        ends = All-permutation (λ q. IsResolvedOn k h (at_place t q)) (p ∷ s.pending) pending moved (All-cons (λ q. IsResolvedOn k h (at_place t q)) p s.pending resolved u.ends);
         pending_marked = All-permutation (λ q. Contains marked (at_place t q).literal.var) (p ∷ s.pending) pending moved (All-cons (λ q. Contains marked (at_place t q).literal.var) p s.pending (subst (Contains marked) (sym var) (marked-last s.marked marked lit.var is)) (All-weaker (λ q. Contains s.marked (at_place t q).literal.var) (λ q. Contains marked (at_place t q).literal.var) (λ q. marked-more s.marked marked lit.var (at_place t q).literal.var is) s.pending u.pending_marked));
         lower_false = u.lower_false;
         lower_inner = u.lower_inner;
@@ -195,17 +199,17 @@ HasMet-pending h b s lit marked pending p ok u lit_false fresh is p_within found
     }
 
 -- no literal came in, and one after others
-pub Meets-none : (h : HeldView) (s : ResolventView) → Meets h [] s s
+pub Meets-none : {k : Staying} (h : HeldView) (s : ResolventView) → Meets k h [] s s
 Meets-none h s b u may = record {
   unresolved = u;
   literals = λ l. (λ here. inl here, λ either. elim either [ inl here ↦ here | inr none ↦ absurd (let no : none.0.0 < 0 = none.0.1 in omega arith) ]);
   marked = λ v here. here;
 }
 
-may-still : (h : HeldView) (b : ℕ) (c : Clause) (old new : ResolventView) (l : Literal) → HasMet h b c old new → MayBeMet h.trail b old l → MayBeMet h.trail b new l
+may-still : {k : Staying} (h : HeldView) (b : ℕ) (c : Clause) (old new : ResolventView) (l : Literal) → HasMet k h b c old new → MayBeMet h.trail b old l → MayBeMet h.trail b new l
 may-still h b c old new l met may = elim may [ inl falsified ↦ inl falsified | inr marked ↦ inr (met.marked l.var marked) ]
 
-HasMet-twice : (h : HeldView) (b : ℕ) (c : Clause) (lit : Literal) (old mid new : ResolventView) → HasMet h b c old mid → HasMet h b (lit ∷ []) mid new → HasMet h b (c ++ lit ∷ []) old new
+HasMet-twice : {k : Staying} (h : HeldView) (b : ℕ) (c : Clause) (lit : Literal) (old mid new : ResolventView) → HasMet k h b c old mid → HasMet k h b (lit ∷ []) mid new → HasMet k h b (c ++ lit ∷ []) old new
 HasMet-twice h b c lit old mid new one two = record {
   unresolved = two.unresolved;
   literals = λ l. (
@@ -221,11 +225,11 @@ HasMet-twice h b c lit old mid new one two = record {
   marked = λ v has. two.marked v (one.marked v has);
 }
 
-pub Meets-push : (h : HeldView) (c : Clause) (lit : Literal) (old mid new : ResolventView) → Meets h c old mid → Meets h (lit ∷ []) mid new → Meets h (c ++ lit ∷ []) old new
-Meets-push h c lit old mid new one two b u may =
+pub Meets-push : (k : Staying) (h : HeldView) (c : Clause) (lit : Literal) (old mid new : ResolventView) → Meets k h c old mid → Meets k h (lit ∷ []) mid new → Meets k h (c ++ lit ∷ []) old new
+Meets-push k h c lit old mid new one two b u may =
     let first : All (MayBeMet h.trail b old) c = λ k d w. subst (MayBeMet h.trail b old) (get_or_append_left c (lit ∷ []) d k w) (may k d (omega (arith, length_push c lit))) in
     let last : MayBeMet h.trail b old lit = All-contains (MayBeMet h.trail b old) (c ++ lit ∷ []) lit may (Contains-push c lit) in
-    let met : HasMet h b c old mid = one b u first in
+    let met : HasMet k h b c old mid = one b u first in
     HasMet-twice h b c lit old mid new met (two b met.unresolved (All-cons (MayBeMet h.trail b mid) lit [] (may-still h b c old mid lit met last) (λ k d w. absurd (omega arith))))
 
 -- of a literal that is not marked the premise says that it is false
@@ -233,11 +237,11 @@ may-false : (h : HeldView) (b : ℕ) (s : ResolventView) (lit : Literal) → ¬ 
 may-false h b s lit fresh may =
     elim (All-head (MayBeMet h.trail b s) lit [] may) [ inl falsified ↦ falsified | inr marked ↦ absurd (fresh marked) ]
 
-pub Meets-marked : (h : HeldView) (s : ResolventView) (lit : Literal) (marked : List ℕ) → Contains s.marked lit.var × (marked ≡ s.marked) → Meets h (lit ∷ []) s (record { marked = marked; pending = s.pending; lower = s.lower })
-Meets-marked h s lit marked (has, is) b u may = HasMet-marked h b s lit marked u has is
+pub Meets-marked : (k : Staying) (h : HeldView) (s : ResolventView) (lit : Literal) (marked : List ℕ) → Contains s.marked lit.var × (marked ≡ s.marked) → Meets k h (lit ∷ []) s (record { marked = marked; pending = s.pending; lower = s.lower })
+Meets-marked k h s lit marked (has, is) b u may = HasMet-marked k h b s lit marked u has is
 
-pub Meets-lower : (h : HeldView) (s : ResolventView) (lit : Literal) (marked : List ℕ) → IsConsistent h → (¬ Contains s.marked lit.var) × (marked ≡ s.marked ++ lit.var ∷ []) → (0 < level_at h.trail lit) × (level_at h.trail lit < h.level) → Meets h (lit ∷ []) s (record { marked = marked; pending = s.pending; lower = s.lower ++ lit ∷ [] })
-Meets-lower h s lit marked ok (fresh, is) (above, below) b u may = HasMet-lower h b s lit marked ok u (may-false h b s lit fresh may) fresh is above below
+pub Meets-lower : (k : Staying) (h : HeldView) (s : ResolventView) (lit : Literal) (marked : List ℕ) → IsConsistent h → (¬ Contains s.marked lit.var) × (marked ≡ s.marked ++ lit.var ∷ []) → (IsFalse h.trail lit → Stays k h lit) → Meets k h (lit ∷ []) s (record { marked = marked; pending = s.pending; lower = s.lower ++ lit ∷ [] })
+Meets-lower k h s lit marked ok (fresh, is) stays b u may = HasMet-lower k h b s lit marked ok u (may-false h b s lit fresh may) fresh is (stays (IsFalse-take b h.trail lit (may-false h b s lit fresh may)))
 
-pub Meets-pending : (h : HeldView) (s : ResolventView) (lit : Literal) (marked pending : List ℕ) (p : ℕ) → IsConsistent h → (¬ Contains s.marked lit.var) × (marked ≡ s.marked ++ lit.var ∷ []) → p < length h.trail → slice_get h.trail p ≡ entry_of h.trail lit.var → IsEndLevel h (level_at h.trail lit) → IsPermutation (p ∷ s.pending) pending → Meets h (lit ∷ []) s (record { marked = marked; pending = pending; lower = s.lower })
-Meets-pending h s lit marked pending p ok (fresh, is) within found end moved b u may = HasMet-pending h b s lit marked pending p ok u (may-false h b s lit fresh may) fresh is within found end moved
+pub Meets-pending : (k : Staying) (h : HeldView) (s : ResolventView) (lit : Literal) (marked pending : List ℕ) (p : ℕ) → IsConsistent h → (¬ Contains s.marked lit.var) × (marked ≡ s.marked ++ lit.var ∷ []) → p < length h.trail → slice_get h.trail p ≡ entry_of h.trail lit.var → ((e : TrailEntry) → entry_of h.trail lit.var ≡ Some e → IsResolvedOn k h e) → IsPermutation (p ∷ s.pending) pending → Meets k h (lit ∷ []) s (record { marked = marked; pending = pending; lower = s.lower })
+Meets-pending k h s lit marked pending p ok (fresh, is) within found end moved b u may = HasMet-pending k h b s lit marked pending p ok u (may-false h b s lit fresh may) fresh is within found end moved

@@ -5,7 +5,8 @@ use Rattle.std.specs.List.Sorted.{IsPermutation}
 use Rattle.std.proofs.lemmas.List.Elements.{All-head, All-tail, All-contains, Contains-append_cases, Contains-get_or}
 use Rattle.std.proofs.lemmas.List.{get_or_default}
 use Rattle.std.proofs.lemmas.List.Sorted.{All-permutation, Contains-permutation, IsPermutation-sym}
-use Rattle.craig_spec.specs.Literal.{Literal, Clause}
+use Rattle.std.proofs.lemmas.Option.{same_Some}
+use Rattle.craig_spec.specs.Literal.{Literal, Clause, negation}
 use Rattle.craig_spec.specs.Chain.{ChainStep, SameLiterals}
 use Rattle.craig_base.specs.Counting.{count_of, NoneMoreThan}
 use Rattle.craig_base.specs.declared.clause_id.ClauseId.{ClauseId}
@@ -17,21 +18,25 @@ use Rattle.craig_spec.proofs.LiteralLemmas.{same_or_not}
 use Rattle.craig_watch.specs.Trail.{Trail, any_entry, entry_of, IsFalse, IsAssigned, level_at, AreDistinct}
 use Rattle.craig_watch.specs.Held.{HeldView, held_clause, Forces, IsConsistent}
 use Rattle.craig_watch.proofs.PlacesLemmas.{IsFalse-take}
-use Rattle.craig_analyze.specs.Resolvent.{ResolventView, at_place, negated_at, resolvent_of, IsEndLevel, IsUnresolved, MayBeMet, HasMet, Meets, IsGreatestTaken, IsResolvable, HasResolved}
-use Rattle.craig_analyze.proofs.PlaceLemmas.{false-within, within-false, false-assigned, place-assigned, place-false, same_negated, entry_of-place, level_at-place}
+use Rattle.craig_analyze.specs.declared.staying.Staying.{Staying}
+use Rattle.craig_analyze.specs.declared.staying.Staying.TheVariants.{InnerLevels, Decisions}
+use Rattle.craig_watch.specs.declared.trail_entry.TrailEntry.{TrailEntry}
+use Rattle.craig_analyze.specs.Resolvent.{ResolventView, at_place, negated_at, resolvent_of, IsResolvedOn, Stays, IsUnresolved, MayBeMet, HasMet, Meets, IsGreatestTaken, IsResolvable, HasResolved}
+use Rattle.craig_analyze.proofs.PlaceLemmas.{false-not_both, false-within, within-false, false-assigned, place-assigned, place-false, same_negated, entry_of-place, level_at-place}
 use Rattle.craig_analyze.proofs.LevelLemmas.{reason_of-cases}
-use Rattle.craig_analyze.proofs.CountLemmas.{count_of-cons, count_of-permutation, Contains-counted}
+use Rattle.craig_analyze.proofs.CountLemmas.{count_of-permutation, Contains-counted}
+use Rattle.craig_base.proofs.CountingLemmas.{count_of-cons}
 use Rattle.craig_analyze.proofs.ChainLemmas.{resolves-with_reason, IsChain-push}
 use Rattle.craig_analyze.proofs.ResolventLemmas.{has-pending, has-lower, has-cases, resolvent-false}
 use Rattle.craig_analyze.proofs.HeldClauseLemmas.{held-live}
 
 -- what is so when the greatest pending place was taken out
-pub record Taken (h : HeldView) (place : ℕ) (old new : ResolventView) : Type 0 where
+pub record Taken (k : Staying) (h : HeldView) (place : ℕ) (old new : ResolventView) : Type 0 where
   pub there : Contains old.pending place
   pub within : place < length h.trail
-  pub end : IsEndLevel h (at_place h.trail place).level
+  pub end : IsResolvedOn k h (at_place h.trail place)
   pub marked : Contains new.marked (at_place h.trail place).literal.var
-  pub unresolved : IsUnresolved h place new
+  pub unresolved : IsUnresolved k h place new
   pub same : SameLiterals (resolvent_of h.trail old) (negated_at h.trail place ∷ resolvent_of h.trail new)
 
 once-twice : (n : ℕ) (xs ys : List ℕ) → NoneMoreThan 1 xs → IsPermutation xs (n ∷ ys) → ¬ Contains ys n
@@ -83,25 +88,25 @@ lower-place t place b l apart low within falsified =
     let inside : k < length t = at.2 in
     (subst (IsFalse (take b t)) at.3 (within-false b t k apart (omega arith) inside), λ e. (let same : place ≡ k = same_negated t place k apart within inside (e ∙ sym at.3) in omega arith))
 
-Taken-same : (h : HeldView) (b place : ℕ) (s : ResolventView) (pending : List ℕ) → IsConsistent h → IsUnresolved h b s → IsPermutation s.pending (place ∷ pending) → All (λ p. p ≤ place) pending → Taken h place s (record { marked = s.marked; pending = pending; lower = s.lower })
-Taken-same h b place s pending ok u moved greatest =
+Taken-same : (k : Staying) (h : HeldView) (b place : ℕ) (s : ResolventView) (pending : List ℕ) → IsConsistent h → IsUnresolved k h b s → IsPermutation s.pending (place ∷ pending) → All (λ p. p ≤ place) pending → Taken k h place s (record { marked = s.marked; pending = pending; lower = s.lower })
+Taken-same k h b place s pending ok u moved greatest =
     let t : Trail = h.trail in
     let new : ResolventView = record { marked = s.marked; pending = pending; lower = s.lower } in
     let low : place < b = All-head (λ p. p < b) place pending (All-permutation (λ p. p < b) s.pending (place ∷ pending) moved u.below) in
-    let all_ends = All-permutation (λ p. IsEndLevel h (at_place t p).level) s.pending (place ∷ pending) moved u.ends in
+    let all_ends = All-permutation (λ p. IsResolvedOn k h (at_place t p)) s.pending (place ∷ pending) moved u.ends in
     let all_marked = All-permutation (λ p. Contains s.marked (at_place t p).literal.var) s.pending (place ∷ pending) moved u.pending_marked in
     let within : place < length t = let w = u.within in omega arith in
     let same : SameLiterals (resolvent_of t s) (negated_at t place ∷ resolvent_of t new) = same-taken t place s new moved refl in
     record {
       there = Contains-permutation (place ∷ pending) s.pending place (IsPermutation-sym s.pending (place ∷ pending) moved) (Contains-front place pending);
       within = within;
-      end = All-head (λ p. IsEndLevel h (at_place t p).level) place pending all_ends;
+      end = All-head (λ p. IsResolvedOn k h (at_place t p)) place pending all_ends;
       marked = All-head (λ p. Contains s.marked (at_place t p).literal.var) place pending all_marked;
       unresolved = record {
         within = omega arith;
         below = below-greatest place s.pending pending u.once moved greatest;
         once = once-rest place s.pending pending u.once moved;
-        ends = All-tail (λ p. IsEndLevel h (at_place t p).level) place pending all_ends;
+        ends = All-tail (λ p. IsResolvedOn k h (at_place t p)) place pending all_ends;
         pending_marked = All-tail (λ p. Contains s.marked (at_place t p).literal.var) place pending all_marked;
         lower_false = u.lower_false;
         lower_inner = u.lower_inner;
@@ -114,29 +119,42 @@ Taken-same h b place s pending ok u moved greatest =
       same = same;
     }
 
-pub IsGreatestTaken-taken : (h : HeldView) (b place : ℕ) (old new : ResolventView) → IsConsistent h → IsUnresolved h b old → IsGreatestTaken place old new → Taken h place old new
-IsGreatestTaken-taken h b place old new ok u taken =
+pub IsGreatestTaken-taken : (k : Staying) (h : HeldView) (b place : ℕ) (old new : ResolventView) → IsConsistent h → IsUnresolved k h b old → IsGreatestTaken place old new → Taken k h place old new
+IsGreatestTaken-taken k h b place old new ok u taken =
     let same : record { marked = old.marked; pending = new.pending; lower = old.lower } ≡ new = λ i. record { marked = sym taken.marked i; pending = new.pending; lower = sym taken.lower i } in
-    subst (Taken h place old) same (Taken-same h b place old new.pending ok u taken.rest taken.greatest)
+    subst (Taken k h place old) same (Taken-same k h b place old new.pending ok u taken.rest taken.greatest)
+
+-- an entry with a reason
+pub no-reason : {A : Type 0} (o : Option A) → o ≡ None → ¬ IsSome o
+no-reason None is some = let no : false ≡ true = some in cc
+no-reason (Some x) is some = let no : Some x ≡ None = is in cc
+
+-- a literal that is resolved on doesn't stay
+apart-stays : (k : Staying) (h : HeldView) (place : ℕ) → IsConsistent h → place < length h.trail → IsResolvedOn k h (at_place h.trail place) → IsSome (at_place h.trail place).reason → ¬ Stays k h (negated_at h.trail place)
+apart-stays InnerLevels h place ok within end forced inner =
+    let above : 0 < level_at h.trail (negated_at h.trail place) = inner.0 in
+    let below : level_at h.trail (negated_at h.trail place) < h.level = inner.1 in
+    let level : level_at h.trail (negated_at h.trail place) ≡ (at_place h.trail place).level = level_at-place h.trail place ok.distinct within in
+    elim end [ inl z ↦ (let zero_level : (at_place h.trail place).level ≡ 0 = z in omega arith) | inr p ↦ (let present : (at_place h.trail place).level ≡ h.level = p in omega arith) ]
+apart-stays Decisions h place ok within end forced decision =
+    let found : Some decision.entry ≡ Some (at_place h.trail place) = sym decision.found ∙ entry_of-place h.trail place ok.distinct within in
+    let same : decision.entry ≡ at_place h.trail place = same_Some _ _ found in
+    no-reason (at_place h.trail place).reason (sym (ap (λ (e : TrailEntry). e.reason) same) ∙ decision.decided) forced
 
 -- the pivot is not in the rest of the resolvent
-pivot-gone : (h : HeldView) (place : ℕ) (s : ResolventView) → IsConsistent h → place < length h.trail → IsEndLevel h (at_place h.trail place).level → IsUnresolved h place s → ¬ Contains (resolvent_of h.trail s) (negated_at h.trail place)
-pivot-gone h place s ok within end u has =
+pivot-gone : (k : Staying) (h : HeldView) (place : ℕ) (s : ResolventView) → IsConsistent h → IsResolvable k h place s → ¬ Contains (resolvent_of h.trail s) (negated_at h.trail place)
+pivot-gone k h place s ok r has =
+    let within : place < length h.trail = r.within in
     elim (has-cases h.trail s (negated_at h.trail place) has) [
       | inl there ↦
-          let low : there.0 < place = All-contains (λ p. p < place) s.pending there.0 u.below there.1 in
+          let low : there.0 < place = All-contains (λ p. p < place) s.pending there.0 r.unresolved.below there.1 in
           let same : there.0 ≡ place = same_negated h.trail there.0 place ok.distinct (omega arith) within there.2 in
           omega arith
-      | inr lower ↦
-          let inner = All-contains (λ l. (0 < level_at h.trail l) × (level_at h.trail l < h.level)) s.lower (negated_at h.trail place) u.lower_inner lower in
-          let above : 0 < level_at h.trail (negated_at h.trail place) = inner.0 in
-          let below : level_at h.trail (negated_at h.trail place) < h.level = inner.1 in
-          let level : level_at h.trail (negated_at h.trail place) ≡ (at_place h.trail place).level = level_at-place h.trail place ok.distinct within in
-          elim end [ inl z ↦ (let zero_level : (at_place h.trail place).level ≡ 0 = z in omega arith) | inr p ↦ (let present : (at_place h.trail place).level ≡ h.level = p in omega arith) ]
+      | inr lower ↦ apart-stays k h place ok within r.end r.forced (All-contains (Stays k h) s.lower (negated_at h.trail place) r.unresolved.lower_inner lower)
     ]
 
 -- the literals of a reason may be met
-pub reason-may_be_met : (h : HeldView) (place : ℕ) (s : ResolventView) (reason : Clause) → IsResolvable h place s → Forces (take place h.trail) reason (at_place h.trail place).literal → All (MayBeMet h.trail place s) reason
+pub reason-may_be_met : {k : Staying} (h : HeldView) (place : ℕ) (s : ResolventView) (reason : Clause) → IsResolvable k h place s → Forces (take place h.trail) reason (at_place h.trail place).literal → All (MayBeMet h.trail place s) reason
 reason-may_be_met h place s reason r forces k d w =
     let l : Literal = get_or reason k d in
     elim (same_or_not l (at_place h.trail place).literal) [
@@ -163,28 +181,29 @@ Reason h place id = (c : Clause) × (held_clause h.arena id ≡ Some c) × Force
 pub reason-held : (h : HeldView) (place : ℕ) (id : ClauseId) → IsConsistent h → place < length h.trail → (at_place h.trail place).reason ≡ Some id → Reason h place id.0
 reason-held h place id ok within is = ok.justified place any_entry within id is
 
+-- the negation of a false literal isn't false by a part of the trail
+pub not-before : (t : Trail) (place : ℕ) (l : Literal) → AreDistinct t → IsFalse t l → ¬ IsFalse (take place t) (negation l)
+not-before t place l apart falsified other = false-not_both t l apart falsified (IsFalse-take place t (negation l) other)
+
 -- the resolvent with the reason
-pub HasResolved-met : (h : HeldView) (place : ℕ) (id : ℕ) (before : List ChainStep) (s new : ResolventView) → IsConsistent h → IsResolvable h place s → Reason h place id → Meets h (literals_at h.arena id) s new → HasResolved h place before (before ++ record { pivot = negated_at h.trail place; antecedent = id } ∷ []) s new
-HasResolved-met h place id before s new ok r (reason, held, forces) meets =
+pub HasResolved-met : (k : Staying) (h : HeldView) (place : ℕ) (id : ℕ) (before : List ChainStep) (s new : ResolventView) → IsConsistent h → IsResolvable k h place s → Reason h place id → Meets k h (literals_at h.arena id) s new → HasResolved k h place before (before ++ record { pivot = negated_at h.trail place; antecedent = id } ∷ []) s new
+HasResolved-met k h place id before s new ok r (reason, held, forces) meets =
     let t : Trail = h.trail in
     let literals : literals_at h.arena id ≡ reason = (held-live h.arena id reason held).1 in
-    let of_reason : Meets h reason s new = subst (λ (d : Clause). Meets h d s new) literals meets in
-    let met : HasMet h place reason s new = of_reason place r.unresolved (reason-may_be_met h place s reason r forces) in
+    let of_reason : Meets k h reason s new = subst (λ (d : Clause). Meets k h d s new) literals meets in
+    let met : HasMet k h place reason s new = of_reason place r.unresolved (reason-may_be_met h place s reason r forces) in
     record {
       unresolved = met.unresolved;
       longer = λ l here. (met.literals l).1 (inl here);
+      earlier = λ l here. elim ((met.literals l).0 here) [ inl before ↦ inl before | inr came ↦ inr came.1 ];
       chain = λ start extra apart chain.
-          let falsified : (l : Literal) → Contains (extra ++ negated_at t place ∷ resolvent_of t s) l → IsFalse t l = λ l here. elim (Contains-append_cases extra (negated_at t place ∷ resolvent_of t s) l here) [
-            | inl in_extra ↦ (All-contains (λ m. IsFalse t m × (m ≢ negated_at t place)) extra l apart in_extra).0
-            | inr behind ↦ elim (Contains-cases (negated_at t place) (resolvent_of t s) l behind) [ inl e ↦ subst (IsFalse t) e (place-false t place ok.distinct r.within) | inr rest ↦ resolvent-false h place s l ok r.unresolved rest ]
+          let apart_from : (l : Literal) → Contains (extra ++ negated_at t place ∷ resolvent_of t s) l → ¬ IsFalse (take place t) (negation l) = λ l here. elim (Contains-append_cases extra (negated_at t place ∷ resolvent_of t s) l here) [
+            | inl in_extra ↦ (All-contains (λ m. (¬ IsFalse (take place t) (negation m)) × (m ≢ negated_at t place)) extra l apart in_extra).0
+            | inr behind ↦ elim (Contains-cases (negated_at t place) (resolvent_of t s) l behind) [ inl e ↦ not-before t place l ok.distinct (subst (IsFalse t) e (place-false t place ok.distinct r.within)) | inr rest ↦ not-before t place l ok.distinct (resolvent-false h place s l ok r.unresolved rest) ]
           ] in
           IsChain-push (held_clause h.arena) start before (record { pivot = negated_at t place; antecedent = id }) (extra ++ negated_at t place ∷ resolvent_of t s) reason (extra ++ resolvent_of t new) chain held
-          (resolves-with_reason t place extra (resolvent_of t s) (resolvent_of t new) reason ok.distinct r.within forces falsified (λ here. (All-contains (λ m. IsFalse t m × (m ≢ negated_at t place)) extra (negated_at t place) apart here).1 refl) (pivot-gone h place s ok r.within r.end r.unresolved) met.literals);
+          (resolves-with_reason t place extra (resolvent_of t s) (resolvent_of t new) reason ok.distinct r.within forces apart_from (λ here. (All-contains (λ m. (¬ IsFalse (take place t) (negation m)) × (m ≢ negated_at t place)) extra (negated_at t place) apart here).1 refl) (pivot-gone k h place s ok r) met.literals);
     }
-
-pub no-reason : {A : Type 0} (o : Option A) → o ≡ None → ¬ IsSome o
-no-reason None is some = let no : false ≡ true = some in cc
-no-reason (Some x) is some = let no : Some x ≡ None = is in cc
 
 -- one step more
 pub chain_of-push : (steps : List Step) (s : Step) → chain_of (steps ++ s ∷ []) ≡ chain_of steps ++ record { pivot = s.pivot; antecedent = s.antecedent.0 } ∷ []

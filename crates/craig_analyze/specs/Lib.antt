@@ -1,3 +1,5 @@
+pub mod Decision
 pub mod Learnt
+pub mod Core
 pub mod Marks
 pub mod Resolvent

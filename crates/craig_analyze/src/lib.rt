@@ -1,11 +1,13 @@
 //! Conflict analysis: what a solver learns from a held clause that is false.
 //!
 //! `learn` resolves back along the trail until one literal of the present level is left, and `refute` resolves all
-//! literals away at level 0. Each answer comes with its resolution chain over held clauses. Literals are resolved on
-//! from the last on the trail to the first. `analysis.rt` says where the method comes from.
+//! literals away at level 0. `final_core` resolves until a literal is false by decisions alone. Each answer comes with
+//! its resolution chain over held clauses. Literals are resolved on from the last on the trail to the first.
+//! `analysis.rt` says where the method comes from.
 #![tactic(auto)]
 
 mod analysis;
+mod cores;
 mod learnt;
 mod levels;
 mod marks;
@@ -13,7 +15,9 @@ mod meeting;
 mod refutation;
 mod resolvent;
 mod resolving;
+mod staying;
 
 pub use analysis::{Analysis, learn};
+pub use cores::{Core, final_core};
 pub use learnt::Learnt;
 pub use refutation::refute;

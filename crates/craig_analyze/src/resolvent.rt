@@ -9,14 +9,14 @@ use std::alloc::Global;
 use std::collections::BinaryHeap;
 
 /// A clause of false literals: the negations of the literals at the pending places of the trail, and the literals
-/// of lower levels. Each variable that came in once is marked, so a literal comes in once.
+/// that stay. Each variable that came in once is marked, so a literal comes in once.
 #[derive(Drop)]
 pub struct Resolvent {
     /// The variables that were met.
     pub variables: Marks,
-    /// The places on the trail of the literals of level 0 and of the present level, which are to be resolved on.
+    /// The places on the trail of the literals that are to be resolved on.
     pub pending: BinaryHeap<usize>,
-    /// The literals of the levels between, which stay.
+    /// The literals that stay: those of the levels between, or those of decisions.
     pub lower: Vec<Lit>,
     ghost ordered: { IsHeap nat_cmp (heap_items pending) } by { Prim.hlevel props },
 }

@@ -3,9 +3,11 @@ ghost use Rattle.std.specs.Prelude.{◌≡◌, ◌<◌, ℕ, true, false, All, C
 ghost use Rattle.std.specs.BinaryHeap.{heap_items, heap_len};
 ghost use Rattle.craig_proof.specs.Tracer.{chain_of};
 ghost use Rattle.craig_watch.specs.Held.{IsConsistent};
-ghost use Rattle.craig_analyze.specs.Resolvent.{HasEnded, HasFound, HasPresent, HasResolved, IsResolvable, IsGreatestTaken, IsUnresolved, at_place, view_of};
+ghost use Rattle.craig_analyze.specs.declared.staying.Staying.TheVariants.{InnerLevels, Decisions};
+ghost use Rattle.craig_analyze.specs.Resolvent.{HasEnded, HasForced, HasFound, HasPresent, HasResolved, IsResolvable, IsGreatestTaken, IsUnresolved, at_place, view_of};
 
 use crate::resolvent::Resolvent;
+use crate::staying::Staying;
 use craig_base::Lit;
 use craig_proof::{Step, Steps};
 use craig_watch::Held;
@@ -20,13 +22,13 @@ impl Resolvent {
     ) -> Result<Lit, AllocError>
         requires consistent { IsConsistent held.now }
         requires level { 0 < held.now.level }
-        requires unresolved { (bound : ℕ) × IsUnresolved held.now bound (view_of self.old) }
+        requires unresolved { (bound : ℕ) × IsUnresolved InnerLevels held.now bound (view_of self.old) }
         requires present { HasPresent held.now (view_of self.old) }
         ensures { IfOk result (λ first. HasFound held.now first (chain_of steps.old) (chain_of steps.new) (view_of self.old) (view_of self.new)) }
     {
         let mut place = self.take_greatest();
         while !self.is_at_root(held) {
-            self.resolve_on(held, steps, place)?;
+            self.resolve_on(held, Staying::InnerLevels, steps, place)?;
             place = self.take_greatest();
         }
         Ok(held.trail()[place].not())
@@ -35,21 +37,44 @@ impl Resolvent {
     /// Resolves all pending literals away, which are of level 0.
     pub(crate) fn resolve_root(&mut self, held: &Held, steps: &mut Steps) -> Result<(), AllocError>
         requires consistent { IsConsistent held.now }
-        requires unresolved { (bound : ℕ) × IsUnresolved held.now bound (view_of self.old) }
+        requires unresolved { (bound : ℕ) × IsUnresolved InnerLevels held.now bound (view_of self.old) }
         requires root { All (λ p. (at_place held.now.trail p).level ≡ 0) (heap_items self.old.pending) }
         ensures { OnOk result (HasEnded held.now (chain_of steps.old) (chain_of steps.new) (view_of self.old) (view_of self.new)) }
     {
         while !self.pending.is_empty() {
             let place = self.take_greatest();
-            self.resolve_on(held, steps, place)?;
+            self.resolve_on(held, Staying::InnerLevels, steps, place)?;
+        }
+        Ok(())
+    }
+
+    /// Resolves back along the trail until decisions alone are left.
+    pub(crate) fn resolve_forced(
+        &mut self,
+        held: &Held,
+        steps: &mut Steps,
+    ) -> Result<(), AllocError>
+        requires consistent { IsConsistent held.now }
+        requires unresolved { (bound : ℕ) × IsUnresolved Decisions held.now bound (view_of self.old) }
+        ensures { OnOk result (HasForced held.now (chain_of steps.old) (chain_of steps.new) (view_of self.old) (view_of self.new)) }
+    {
+        while !self.pending.is_empty() {
+            let place = self.take_greatest();
+            self.resolve_on(held, Staying::Decisions, steps, place)?;
         }
         Ok(())
     }
 
     /// Resolves with the reason of the literal at a place that was taken out.
-    fn resolve_on(&mut self, held: &Held, steps: &mut Steps, place: usize) -> Result<(), AllocError>
-        requires { IsResolvable held.now place (view_of self.old) }
-        ensures { OnOk result (HasResolved held.now place (chain_of steps.old) (chain_of steps.new) (view_of self.old) (view_of self.new)) }
+    fn resolve_on(
+        &mut self,
+        held: &Held,
+        staying: Staying,
+        steps: &mut Steps,
+        place: usize,
+    ) -> Result<(), AllocError>
+        requires { IsResolvable staying held.now place (view_of self.old) }
+        ensures { OnOk result (HasResolved staying held.now place (chain_of steps.old) (chain_of steps.new) (view_of self.old) (view_of self.new)) }
     {
         let lit = held.trail()[place];
         let Some(antecedent) = held.reason(lit.var()) else {
@@ -57,7 +82,7 @@ impl Resolvent {
         };
         let pivot = lit.not();
         steps.push(Step { pivot, antecedent })?;
-        self.meet(held, antecedent)
+        self.meet(held, staying, antecedent)
     }
 
     /// Takes the greatest pending place out.

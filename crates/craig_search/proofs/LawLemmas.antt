@@ -55,19 +55,24 @@ at_places-at assumptions (p ∷ places) all (suc k) low =
     let b = at_places-at assumptions places (λ j d within. all (suc j) d (omega (arith, within))) k (omega (arith, low)) in
     (b.0, rw a.1 b.1)
 
-unit-step : (new : HeldView) (assumptions : Assumptions) (root : ℕ) (places : List ℕ) (t u : Told) → IsRoot new assumptions root places t u → AreFirstPlaces assumptions places → IsTold u → (s : ToldStep) → Contains u.steps s → IsUnitId root places s.id → IsUnitStep assumptions places s
-unit-step new assumptions root places t u is first stands s here unit =
-    let low : s.id < root = unit.0 in
-    let high : root ≤ s.id + length places = unit.1 in
-    let k : ℕ = s.id - (root - length places) in
+-- the unit of a failed assumption was told under its id
+pub unit-told : (new : HeldView) (assumptions : Assumptions) (root : ℕ) (places : List ℕ) (t u : Told) → IsRoot new assumptions root places t u → AreFirstPlaces assumptions places → (id : ℕ) → IsUnitId root places id → (a : Part × Literal) × Contains (at_places assumptions places) a × Contains u.steps (original_step id a.0.0 (a.1 ∷ []))
+unit-told new assumptions root places t u is first id unit =
+    let low : id < root = unit.0 in
+    let high : root ≤ id + length places = unit.1 in
+    let k : ℕ = id - (root - length places) in
     let within : k < length places = omega (arith, low, high) in
-    let at : root - length places + k ≡ s.id = omega (arith, low, high) in
+    let at : root - length places + k ≡ id = omega (arith, low, high) in
     let a = at_places-at assumptions places (λ j d inside. let f = first.first j d inside in (f.0, f.1)) k within in
-    let step : Contains u.steps (original_step s.id (a.0).0.0 ((a.0).1 ∷ [])) = subst (λ (x : ℕ). Contains u.steps (original_step x (a.0).0.0 ((a.0).1 ∷ []))) at (is.units k a.0 a.1) in
-    let same : s ≡ original_step s.id (a.0).0.0 ((a.0).1 ∷ []) = one_step u s (original_step s.id (a.0).0.0 ((a.0).1 ∷ [])) stands here step refl in
+    (a.0, Contains-from_slice_get (at_places assumptions places) k a.0 a.1, subst (λ (x : ℕ). Contains u.steps (original_step x (a.0).0.0 ((a.0).1 ∷ []))) at (is.units k a.0 a.1))
+
+pub unit-step : (new : HeldView) (assumptions : Assumptions) (root : ℕ) (places : List ℕ) (t u : Told) → IsRoot new assumptions root places t u → AreFirstPlaces assumptions places → IsTold u → (s : ToldStep) → Contains u.steps s → IsUnitId root places s.id → IsUnitStep assumptions places s
+unit-step new assumptions root places t u is first stands s here unit =
+    let a = unit-told new assumptions root places t u is first s.id unit in
+    let same : s ≡ original_step s.id (a.0).0.0 ((a.0).1 ∷ []) = one_step u s (original_step s.id (a.0).0.0 ((a.0).1 ∷ [])) stands here a.2 refl in
     record {
       assumed = a.0;
-      at_place = Contains-from_slice_get (at_places assumptions places) k a.0 a.1;
+      at_place = a.1;
       part = ap (λ (r : ToldStep). r.origin) same;
       literals = ap (λ (r : ToldStep). r.literals) same;
     }

@@ -1,13 +1,16 @@
 -- A learnt clause may be held after going back.
-use Rattle.std.proofs.Common.{◌≡◌, ◌⊎◌, inl, inr, ℕ, ◌<◌, ◌≤◌, ◌∷◌, length, get_or, map, All, Contains, Some, sym, subst, ◌∙◌, arith}
+use Rattle.std.proofs.Common.{◌≡◌, ◌⊎◌, inl, inr, ℕ, ◌<◌, ◌≤◌, List, [], ◌∷◌, length, get_or, map, All, Contains, Some, sym, subst, ◌∙◌, arith}
 use Rattle.std.proofs.lemmas.List.{get_or_default, get_or-map, length-map}
-use Rattle.std.proofs.lemmas.List.Elements.{All-contains, All-map}
+use Rattle.std.proofs.lemmas.List.Elements.{All-cons, All-contains, All-map}
 use Rattle.craig_spec.specs.Literal.{Literal, Clause, negation}
+use Rattle.craig_spec.specs.Chain.{ChainStep, IsChain}
+use Rattle.craig_proof.specs.declared.step.Step.{Step}
+use Rattle.craig_proof.specs.Tracer.{chain_of}
 use Rattle.craig_watch.specs.declared.trail_entry.TrailEntry.{TrailEntry}
 use Rattle.craig_watch.specs.Trail.{Trail, IsFalse, entry_of, level_at, part_up_to}
-use Rattle.craig_watch.specs.Held.{HeldView, IsConsistent, MayBeHeld}
+use Rattle.craig_watch.specs.Held.{HeldView, IsConsistent, MayBeHeld, held_clause}
 use Rattle.craig_analyze.specs.declared.learnt.Learnt.{Learnt}
-use Rattle.craig_analyze.specs.Learnt.{IsAssertingClause}
+use Rattle.craig_analyze.specs.Learnt.{IsAssertingClause, IsDerived}
 
 -- what is false has an entry
 abbrev pub FalseHaveEntries : Type 0
@@ -62,3 +65,15 @@ fits-back may h l ok above asserting =
       | inr none ↦ inl none.1
     ] in
     subst (MayBeHeld (record h { trail = part_up_to l.back h.trail; level = l.back })) (sym lits) (may h asserting.first asserting.rest l.back ok falsified first rest greatest)
+
+-- the pivots of a chain over held clauses are of known variables
+chain-pivots : (h : HeldView) (start : Clause) (rest : List ChainStep) (last : Clause) → IsConsistent h → IsChain (held_clause h.arena) start rest last → All (λ s. s.pivot.var < h.vars) rest
+chain-pivots h start [] last ok chain = λ k d within. absurd (omega arith)
+chain-pivots h start (s ∷ rest) last ok (d, resolvent, held, resolved, more) =
+    All-cons (λ (q : ChainStep). q.pivot.var < h.vars) s rest (All-contains (λ (l : Literal). l.var < h.vars) d (negation s.pivot) (ok.clauses s.antecedent d held).1 resolved.second_has) (chain-pivots h resolvent rest last ok more)
+
+pub known-pivots : (h : HeldView) (l : Learnt) → IsConsistent h → IsDerived h.arena l → All (λ s. s.pivot.var < h.vars) l.rest
+known-pivots h l ok derived = λ k d within.
+    let told : ChainStep = record { pivot = d.pivot; antecedent = d.antecedent.0 } in
+    let inside : k < length (chain_of l.rest) = rw length-map within in
+    subst (λ (s : ChainStep). s.pivot.var < h.vars) (get_or-map (λ (s : Step). record { pivot = s.pivot; antecedent = s.antecedent.0 }) l.rest k d told within) (chain-pivots h derived.chain.start (chain_of l.rest) l.lits ok derived.chain.chain k told inside)

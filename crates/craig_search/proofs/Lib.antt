@@ -9,3 +9,9 @@ pub mod SearchingLemmas
 pub mod MeasureLemmas
 pub mod VerdictLemmas
 pub mod LawLemmas
+pub mod UnitLemmas
+pub mod AssumingLemmas
+pub mod NegatedLemmas
+pub mod UnitChainLemmas
+pub mod FailureLemmas
+pub mod FailedLemmas

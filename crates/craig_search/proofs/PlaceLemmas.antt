@@ -1,11 +1,12 @@
 -- The literals on a trail and their entries.
-use Rattle.std.proofs.Common.{◌≡◌, ℕ, ◌+◌, ◌-◌, ◌<◌, ◌≤◌, List, length, get_or, take, drop, map, All, Option, Some, sym, ap, subst, ◌∙◌, arith}
+use Rattle.std.proofs.Common.{◌≡◌, ℕ, ◌+◌, ◌-◌, ◌<◌, ◌≤◌, List, length, get_or, take, drop, map, All, Option, Some, None, refl, sym, ap, subst, ◌∙◌, arith}
 use Rattle.std.specs.Option.{is_some, option_map}
 use Rattle.std.proofs.lemmas.List.{get_or-drop, get_or-map, length-drop, length-map, take_rest}
 use Rattle.std.proofs.lemmas.List.Elements.{All-drop, All-map, All-same, All-take}
 use Rattle.craig_spec.specs.Literal.{Literal}
 use Rattle.craig_watch.specs.declared.trail_entry.TrailEntry.{TrailEntry}
 use Rattle.craig_watch.specs.Trail.{Trail, IsAssigned, any_entry, entry_of}
+use Rattle.craig_watch.specs.LawsOfTrails.{EntriesOfVariablesHavePlaces}
 
 -- the entry at each place is that of its variable
 abbrev pub HasEntry : Trail → ℕ → Type 0
@@ -28,6 +29,17 @@ pub level-at : (t : Trail) (xs : List Literal) (k v r : ℕ) (l : Literal) → H
 level-at t xs k v r l has literals within at var found d =
     let same : Some (get_or t k d).level ≡ Some r = sym (ap (option_map (λ (e : TrailEntry). e.level)) (entry-at t xs k v l has literals within at var d)) ∙ found in
     cc
+
+-- the level that is found for a variable is one of the trail
+level-found : (o : Option TrailEntry) (n : ℕ) → option_map (λ e. e.level) o ≡ Some n → (e : TrailEntry) × (o ≡ Some e) × (e.level ≡ n)
+level-found None n is = absurd (let no : None ≡ Some n = is in cc)
+level-found (Some e) n is = (e, refl, (let same : Some e.level ≡ Some n = is in cc))
+
+pub level-low : (t : Trail) (top v n : ℕ) → EntriesOfVariablesHavePlaces t → All (λ e. e.level ≤ top) t → option_map (λ e. e.level) (entry_of t v) ≡ Some n → n ≤ top
+level-low t top v n places low is =
+    let found = level-found (entry_of t v) n is in
+    let at = places v found.0 found.1 in
+    subst (λ (m : ℕ). m ≤ top) found.2 (subst (λ (e : TrailEntry). e.level ≤ top) (at.3 found.0) (low at.0 found.0 at.1))
 
 -- what holds of each literal from a place on
 pub from_place : (P : Literal → Type 0) (t : Trail) (xs ys : List Literal) (place : ℕ) → xs ≡ map (λ e. e.literal) t → ys ≡ take (length xs - place) (drop place xs) → place ≤ length t → All P ys → (k : ℕ) (d : TrailEntry) → place ≤ k → k < length t → P (get_or t k d).literal

@@ -1,7 +1,9 @@
 pub mod Verdict
 pub mod Leaves
+pub mod Assuming
 pub mod Tells
 pub mod Search
 pub mod Searching
 pub mod Levels
 pub mod LawsOfTelling
+pub mod Failing

@@ -7,7 +7,7 @@ use Rattle.craig_order.specs.Order.{OrderView}
 use Rattle.craig_search.specs.declared.verdict.Verdict.{Verdict}
 use Rattle.craig_search.specs.Leaves.{IsAtRest, IsReady, Leaves}
 use Rattle.craig_search.specs.Tells.{IsVerdictTold}
-use Rattle.craig_search.specs.Verdict.{Assumptions, IsVerdict}
+use Rattle.craig_search.specs.Verdict.{Assumptions, HasUnitIds, IsVerdict}
 
 -- a search may begin
 pub record MayBegin (h : HeldView) (o : OrderView) (told : Option Told) : Type 0 where
@@ -22,6 +22,8 @@ pub record MayBegin (h : HeldView) (o : OrderView) (told : Option Told) : Type 0
 pub record IsSearched (old new : HeldView) (o : OrderView) (before after : Option Told) (assumptions : Assumptions) (limit : Option ℕ) (v : Verdict) : Type 0 where
   -- the verdict is right of the clauses that were held, and of the trail
   pub verdict : IsVerdict old new assumptions limit v
+  -- its units have ids
+  pub ids : HasUnitIds old v
   -- a model stays on the trail, and else nothing is decided and the order is ready
   pub at_rest : IsAtRest new o v
   -- the clauses that it leaves

@@ -8,10 +8,13 @@ use Rattle.craig_watch.specs.Held.{HeldView, IsConsistent, held_clause}
 use Rattle.craig_proof.specs.Covers.{IsCovering}
 use Rattle.craig_proof.specs.Tracer.{Appends, chain_of, derived_step}
 use Rattle.craig_proof.specs.declared.step.Step.{Step}
-use Rattle.craig_base.specs.declared.clause_id.ClauseId.{ClauseId}
 use Rattle.craig_order.specs.Order.{OrderView}
 use Rattle.craig_analyze.specs.declared.learnt.Learnt.{Learnt}
-use Rattle.craig_search.specs.Verdict.{IsFound}
+use Rattle.craig_watch.specs.Trail.{IsFalse}
+use Rattle.craig_search.specs.declared.outcome.Outcome.{Outcome}
+use Rattle.craig_search.specs.declared.outcome.Outcome.TheVariants.{Model, Refuted, Failed}
+use Rattle.craig_search.specs.Assuming.{AreAllAssumed, IsAssumed}
+use Rattle.craig_search.specs.Verdict.{Assumptions, IsFound}
 use Rattle.craig_search.specs.Leaves.{IsReady, Leaves}
 use Rattle.craig_search.specs.Tells.{Tells}
 
@@ -73,16 +76,18 @@ pub record TellsEmptyClause (old new : HeldView) (root : ℕ) (before after : Op
   -- it was told under the root
   pub told : Appends before after (derived_step root [] first rest)
 
--- the end of a search without assumptions: a model on the trail, or the empty clause, told at level 0
-abbrev pub EndsWith : HeldView → HeldView → OrderView → Option Told → Option Told → Option ClauseId → Type 0
-EndsWith start end o before after None = IsSearching start end before after × IsFound end [] × (length o.given_back ≡ end.vars)
-EndsWith start end o before after (Some root) =
+-- the end of the turns: a model on the trail, the empty clause, told at level 0, or an assumption that is false by assumptions alone
+abbrev pub EndsWith : Assumptions → HeldView → HeldView → OrderView → Option Told → Option Told → Outcome → Type 0
+EndsWith assumptions start end o before after Model = IsSearching start end before after × IsFound end assumptions × (length o.given_back ≡ end.vars)
+EndsWith assumptions start end o before after (Refuted root) =
     (last : HeldView) × (by_then : Option Told) × IsSearching start last before by_then × TellsEmptyClause last end root.0 by_then after × (last.level ≡ 0) × IsReady last o
+EndsWith assumptions start end o before after (Failed l) =
+    IsSearching start end before after × IsReady end o × IsFalse end.trail l × IsAssumed assumptions l × AreAllAssumed assumptions end.trail
 
--- what a search without assumptions leaves
-pub record IsOutcome (start end : HeldView) (o : OrderView) (before after : Option Told) (root : Option ClauseId) : Type 0 where
-  -- a model, or the root of a refutation
-  pub ends : EndsWith start end o before after root
+-- what the turns of a search leave
+pub record IsOutcome (assumptions : Assumptions) (start end : HeldView) (o : OrderView) (before after : Option Told) (outcome : Outcome) : Type 0 where
+  -- a model, the root of a refutation, or a false assumption
+  pub ends : EndsWith assumptions start end o before after outcome
   -- the clauses and their trail are as they are after every call
   pub consistent : IsConsistent end
   -- memory was not refused

@@ -63,6 +63,8 @@ pub record IsRoot (new : HeldView) (assumptions : Assumptions) (root : ℕ) (pla
   pub units : (k : ℕ) (a : Part × Literal) → slice_get (at_places assumptions places) k ≡ Some a → Contains u.steps (original_step (root - length places + k) a.0.0 (a.1 ∷ []))
   -- of the originals it needs those from before and these units alone
   pub needs : (s : ToldStep) → Contains u.steps s → IsOriginal s.origin → IsNeeded u.steps root s.id → WasTold t s ⊎ IsUnitId root places s.id
+  -- the ids of the clauses that are held come before the root
+  pub last : (id : ℕ) (c : Clause) → held_clause new.arena id ≡ Some c → id < root
   -- no clause is held under its id
   pub root_not_held : held_clause new.arena root ≡ None
   -- or under that of a unit

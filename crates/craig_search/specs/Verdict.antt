@@ -1,5 +1,5 @@
 -- What a search answers.
-use Rattle.std.specs.Prelude.{◌≡◌, ◌≢◌, ℕ, ◌<◌, List, [], ◌∷◌, Option, Some, length, map, All, slice_get}
+use Rattle.std.specs.Prelude.{◌≡◌, ◌≢◌, ℕ, ◌+◌, ◌<◌, ◌≤◌, List, [], ◌∷◌, Option, Some, length, map, All, slice_get}
 use Rattle.std.specs.Option.{option_to_list}
 use Rattle.std.specs.List.{flat_map}
 use Rattle.std.specs.List.Sorted.{IsStrictlyIncreasing}
@@ -61,3 +61,9 @@ abbrev pub IsVerdict : HeldView → HeldView → Assumptions → Option ℕ → 
 IsVerdict old new assumptions limit Model = IsFound new assumptions
 IsVerdict old new assumptions limit (Failed root places) = IsRefuted old assumptions places
 IsVerdict old new assumptions limit (Limit lemmas) = IsLimited old limit lemmas
+
+-- where assumptions fail, the root and the ids below it, one for each of their units, were given in this search
+abbrev pub HasUnitIds : HeldView → Verdict → Type 0
+HasUnitIds old Model = Unit {0}
+HasUnitIds old (Failed root places) = old.arena.given + length places ≤ root.0
+HasUnitIds old (Limit lemmas) = Unit {0}

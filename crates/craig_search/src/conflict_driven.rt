@@ -3,12 +3,16 @@ ghost use Rattle.std.specs.Prelude.{◌≡◌, ◌≢◌, ◌<◌, [], true, Som
 ghost use Rattle.craig_search.specs.Search.{IsSearched, MayBegin};
 ghost use Rattle.craig_search.specs.Searching.{IsOutcome, IsUnderWay};
 
+use crate::deciding::{Turn, decide_next, first_open};
+use crate::failing::failed;
 use crate::learning::learn;
+use crate::outcome::Outcome;
 use crate::refuting::refuted;
+use crate::restarting::restart_if_due;
 use crate::{Places, Verdict};
 use craig_analyze::Analysis;
 use craig_base::{ClauseId, Lit, Part};
-use craig_order::Order;
+use craig_order::{Order, Pace};
 use craig_proof::Tracer;
 use craig_watch::Held;
 use std::alloc::{AllocError, Global};
@@ -25,7 +29,10 @@ use std::alloc::{AllocError, Global};
 /// An `AllocError` comes only for want of memory. After it nothing is promised of what was lent but that its calls are
 /// safe, and that the same variables are known. Clauses whose memory was refused before are not searched.
 ///
-/// No assumption and no limit can be given yet.
+/// Assumptions are decided in their order, each at a level of its own, and none that is true already. One that is false
+/// ends the search.
+///
+/// No limit can be given yet.
 pub fn search<T: Tracer>(
     alloc: Global,
     held: &mut Held,
@@ -37,7 +44,6 @@ pub fn search<T: Tracer>(
     requires begins { MayBegin held.old order.old (T.told tracer.old) }
     requires known { All (λ a. a.1.var < held.old.vars) assumptions.now }
     requires limit { limit ≢ Some 0 }
-    requires no_assumption { assumptions.now ≡ [] }
     requires no_limit { limit ≡ None }
     ensures searched { IfOk result (IsSearched held.old held.new order.new (T.told tracer.old) (T.told tracer.new) assumptions.now limit) }
     ensures vars { held.new.vars ≡ held.old.vars }
@@ -47,26 +53,37 @@ pub fn search<T: Tracer>(
     ensures kept { T.kept tracer.new ≡ T.kept tracer.old }
 {
     let level = held.level();
-    prove!(assumptions.is_empty() && limit.is_none() && level == 0);
-    let outcome = run(held, order, tracer, &mut Analysis::new(alloc))?;
+    prove!(limit.is_none() && level == 0);
+    let mut analysis = Analysis::new(alloc);
+    let outcome = run(held, order, tracer, &mut analysis, assumptions)?;
     match outcome {
-        None => Ok(Verdict::Model),
-        Some(root) => Ok(Verdict::Failed {
+        Outcome::Model => Ok(Verdict::Model),
+        Outcome::Refuted(root) => Ok(Verdict::Failed {
             root,
             places: Places::none(alloc),
         }),
+        Outcome::Failed(lit) => {
+            let failure = failed(alloc, held, order, tracer, &mut analysis, assumptions, lit)?;
+            Ok(Verdict::Failed {
+                root: failure.root,
+                places: failure.places,
+            })
+        }
     }
 }
 
-/// Searches until no variable is free, or until a clause is false at level 0, and gives the id of the empty clause then.
+/// Searches until no variable is free, until a clause is false at level 0, or until an assumption is false.
 fn run<T: Tracer>(
     held: &mut Held,
     order: &mut Order,
     tracer: &mut T,
     analysis: &mut Analysis,
-) -> Result<Option<ClauseId>, AllocError>
-    requires { IsUnderWay held.old order.old (T.told tracer.old) }
-    ensures outcome { IfOk result (IsOutcome held.old held.new order.new (T.told tracer.old) (T.told tracer.new)) }
+    assumptions: &[(Part, Lit)],
+) -> Result<Outcome, AllocError>
+    requires under_way { IsUnderWay held.old order.old (T.told tracer.old) }
+    requires level { held.old.level ≡ 0 }
+    requires known { All (λ a. a.1.var < held.old.vars) assumptions.now }
+    ensures outcome { IfOk result (IsOutcome assumptions.now held.old held.new order.new (T.told tracer.old) (T.told tracer.new)) }
     ensures vars { held.new.vars ≡ held.old.vars }
     ensures order { order.new.dead ≡ order.old.dead }
     ensures refused { held.old.dead ≡ true → IsErr result }
@@ -75,68 +92,26 @@ fn run<T: Tracer>(
 {
     craig_watch::laws::levels_rise();
     craig_base::laws::no_longer_list();
+    let mut pace = Pace::new();
+    let mut place = 0;
     loop {
         match held.propagate()? {
-            None => match order.next(held) {
-                None => return Ok(None),
-                Some(lit) => held.decide(lit),
-            },
+            None => {
+                place = first_open(held, assumptions, place);
+                match decide_next(held, order, assumptions, place) {
+                    Turn::Decided => {}
+                    Turn::Model => return Ok(Outcome::Model),
+                    Turn::Failed(lit) => return Ok(Outcome::Failed(lit)),
+                }
+            }
             Some(conflict) => {
                 if held.level() == 0 {
-                    return Ok(Some(refuted(held, tracer, analysis, conflict)?));
+                    return Ok(Outcome::Refuted(refuted(held, tracer, analysis, conflict)?));
                 }
-                learn(held, order, tracer, analysis, conflict)?;
+                learn(held, order, tracer, analysis, &mut pace, conflict)?;
+                restart_if_due(held, order, &mut pace, assumptions);
+                place = 0;
             }
         }
-    }
-}
-
-#[cfg(test)]
-mod tests {
-    use super::*;
-    use craig_base::{Flags, Var};
-    use craig_proof::Silent;
-    use std::test::Fail;
-
-    const FLAGS: Flags = Flags {
-        learnt: false,
-        kept: false,
-        glue: 0,
-    };
-
-    #[test]
-    fn a_model_is_found(rt: HostRuntime) -> Result<(), Fail> {
-        let mut held = Held::new(rt.alloc());
-        let mut order = Order::new(rt.alloc());
-        held.grow(2)?;
-        order.grow(2)?;
-        let v0 = Lit::new(Var(0), false);
-        let v1 = Lit::new(Var(1), false);
-        held.hold(&[v0, v1], FLAGS)?;
-        let verdict = search(rt.alloc(), &mut held, &mut order, &mut Silent, &[], None)?;
-        let Verdict::Model = verdict else {
-            panic!(rt; "the clause has a model");
-        };
-        Ok(())
-    }
-
-    #[test]
-    fn clauses_without_a_model_are_refuted(rt: HostRuntime) -> Result<(), Fail> {
-        let mut held = Held::new(rt.alloc());
-        let mut order = Order::new(rt.alloc());
-        held.grow(2)?;
-        order.grow(2)?;
-        let v0 = Lit::new(Var(0), false);
-        let v1 = Lit::new(Var(1), false);
-        held.hold(&[v0, v1], FLAGS)?;
-        held.hold(&[v0, v1.not()], FLAGS)?;
-        held.hold(&[v0.not(), v1], FLAGS)?;
-        held.hold(&[v0.not(), v1.not()], FLAGS)?;
-        let verdict = search(rt.alloc(), &mut held, &mut order, &mut Silent, &[], None)?;
-        let Verdict::Failed { root, .. } = verdict else {
-            panic!(rt; "no assignment makes all four true");
-        };
-        assert!(rt; root.0 > 3);
-        Ok(())
     }
 }

@@ -13,16 +13,3 @@ pub fn refutations_rest_on_assumptions()
     ensures held { HeldClausesRestOnClauses }
     ensures forgotten { RefutationsMayBeForgotten }
 {}
-
-#[cfg(test)]
-mod tests {
-    use super::*;
-    use std::test::Fail;
-
-    #[test]
-    fn the_laws_are_called(_rt: HostRuntime) -> Result<(), Fail> {
-        other_clauses_stay_covered();
-        refutations_rest_on_assumptions();
-        Ok(())
-    }
-}

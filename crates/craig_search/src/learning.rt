@@ -1,5 +1,6 @@
 //! Learning from a clause that is false.
-ghost use Rattle.std.specs.Prelude.{◌≡◌, ◌<◌, ◌+◌, All, OnOk, is_some, length};
+ghost use Rattle.std.specs.Prelude.{◌≡◌, ◌<◌, ◌+◌, ℕ, All, OnOk, is_some, length};
+ghost use Rattle.craig_watch.specs.Trail.{part_up_to};
 ghost use Rattle.craig_watch.specs.Held.{IsConsistent, IsFalsified, MayBeHeld, held_clause};
 ghost use Rattle.craig_proof.specs.Covers.{IsCovering};
 ghost use Rattle.craig_analyze.specs.Learnt.{IsDerived};
@@ -8,8 +9,8 @@ ghost use Rattle.craig_search.specs.Searching.{GoesOn, IsNew, IsUnderWay, with_l
 use crate::going_back::go_back;
 use craig_analyze::{Analysis, Learnt};
 use craig_base::{ClauseId, Flags, Lit};
-use craig_order::Order;
-use craig_proof::Tracer;
+use craig_order::{Order, Pace};
+use craig_proof::{Step, Tracer};
 use craig_watch::Held;
 use std::alloc::AllocError;
 
@@ -19,6 +20,7 @@ pub(crate) fn learn<T: Tracer>(
     order: &mut Order,
     tracer: &mut T,
     analysis: &mut Analysis,
+    pace: &mut Pace,
     conflict: ClauseId,
 ) -> Result<(), AllocError>
     requires level { 0 < held.old.level }
@@ -27,6 +29,7 @@ pub(crate) fn learn<T: Tracer>(
     ensures goes_on { OnOk result (GoesOn held.old held.new (T.told tracer.old) (T.told tracer.new)) }
     ensures given { OnOk result (held.new.arena.given ≡ held.old.arena.given + 1) }
     ensures under_way { OnOk result (IsUnderWay held.new order.new (T.told tracer.new)) }
+    ensures back { OnOk result ((level : ℕ) × (held.new.trail ≡ part_up_to level held.old.trail)) }
     ensures vars { held.new.vars ≡ held.old.vars }
     ensures order { order.new.dead ≡ order.old.dead }
     ensures tells { is_some (T.told tracer.new) ≡ is_some (T.told tracer.old) }
@@ -35,20 +38,24 @@ pub(crate) fn learn<T: Tracer>(
     craig_watch::laws::asserting_clauses_may_be_held();
     craig_watch::laws::entries_have_places();
     let learnt = analysis.learn_with(held, conflict)?;
-    let lits = learnt.lits.as_slice();
-    raise(order, lits);
+    pace.conflict(learnt.glue);
+    raise(order, learnt.lits.as_slice(), learnt.rest.as_slice());
     go_back(held, order, learnt.back);
     hold_learnt(held, tracer, &learnt)?;
     Ok(())
 }
 
-/// Raises the scores of the variables.
-fn raise(order: &mut Order, lits: &[Lit])
-    requires { All (λ l. l.var < length order.old.given_back) lits.now }
+/// Raises the scores of the variables that analysis met: those of the learnt clause, and those that were resolved on.
+fn raise(order: &mut Order, lits: &[Lit], rest: &[Step])
+    requires lits { All (λ l. l.var < length order.old.given_back) lits.now }
+    requires pivots { All (λ s. s.pivot.var < length order.old.given_back) rest.now }
     ensures { order.new ≡ order.old }
 {
     for lit in lits {
         order.bump(lit.var());
+    }
+    for step in rest {
+        order.bump(step.pivot.var());
     }
     order.decay();
 }

@@ -2,17 +2,21 @@
 //!
 //! After Marques-Silva and Sakallah, "GRASP", IEEE Transactions on Computers 48, 1999, and Eén and Sörensson, "An
 //! Extensible SAT-solver", SAT 2003: unit propagation, a decision where nothing is forced, and a learnt clause and a
-//! jump back where a clause is false. A search ends, since no learnt clause contains a held one, and over `v` variables
-//! there are at most `3^v` such clauses.
+//! jump back where a clause is false. Right after a learnt clause it may restart. A search ends, since no learnt clause
+//! contains a held one, and over `v` variables there are at most `3^v` such clauses.
 #![tactic(auto)]
 
 mod conflict_driven;
+mod deciding;
+mod failing;
 mod going_back;
 mod journal;
 pub mod laws;
 mod learning;
+mod outcome;
 mod places;
 mod refuting;
+mod restarting;
 mod verdict;
 
 pub use conflict_driven::search;

@@ -1,4 +1,5 @@
 use Rattle.std.proofs.Common.{◌<◌, length, sym, arith}
+use Rattle.std.proofs.lemmas.Result.{IfOk-from_err}
 use Rattle.craig_analyze.proofs.LevelLemmas.{level_of-is}
 use Rattle.craig_analyze.proofs.GlueLemmas.{count-step, count-end, few-levels}
 use Rattle.craig_analyze.proofs.levels.count_levels.Goals as goal
@@ -22,3 +23,6 @@ overflow_cast-result c =
     let same = count-end c.args.held.now.trail c.args.lits.now c.loop-lit.lit-index c.loop-lit.marks c.loop-lit-test.false c.loop-lit.invariant in
     let few : length c.loop-lit.marks < 4294967296 = few-levels c.args.held.now c.args.lits.now c.loop-lit.marks c.requires.consistent (c.levels_rise.ensures.few_levels c.args.held.now c.requires.consistent) c.len.ensures.once same in
     omega (arith, c.len.ensures.number)
+
+pub returns-in_err-insert : goal.returns-in_err-insert
+returns-in_err-insert c = IfOk-from_err _ _ c.from_residual.ensures.0

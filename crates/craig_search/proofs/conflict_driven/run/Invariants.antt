@@ -1,21 +1,25 @@
-use Rattle.std.proofs.Common.{◌≡◌}
+use Rattle.std.proofs.Common.{◌≡◌, ◌≤◌, length}
 use Rattle.std.specs.Option.{is_some}
 use Rattle.craig_watch.specs.Held.{held_clause}
 use Rattle.craig_proof.specs.Covers.{IsCovering}
+use Rattle.craig_search.specs.Assuming.{AreDecided, AreTrueBefore}
 use Rattle.craig_search.specs.Leaves.{IsReady}
 use Rattle.craig_search.specs.Searching.{IsSearching}
 use Rattle.craig_search.proofs.MeasureLemmas.{turns}
 use Rattle.craig_search.proofs.conflict_driven.run.Given as goal
 
-abbrev pub invariant-loop-order : goal.invariant-loop-order
-invariant-loop-order g l = record {
+abbrev pub invariant-loop-held : goal.invariant-loop-held
+invariant-loop-held g l = record {
   searching : IsSearching l.initial.held l.held (g.T.Tracer.told l.initial.tracer) (g.T.Tracer.told l.tracer);
   ready : IsReady l.held l.order;
   covers : IsCovering (g.T.Tracer.told l.tracer) (held_clause l.held.arena) l.held.arena.given;
   order : l.order.dead ≡ l.initial.order.dead;
   tells : is_some (g.T.Tracer.told l.tracer) ≡ is_some (g.T.Tracer.told l.initial.tracer);
   kept : g.T.Tracer.kept l.tracer ≡ g.T.Tracer.kept l.initial.tracer;
+  within : l.place ≤ length l.assumptions;
+  decided : AreDecided l.assumptions l.held.trail;
+  before : AreTrueBefore l.held.trail l.assumptions l.place;
 }
 
-abbrev pub decreases-loop-order : goal.decreases-loop-order
-decreases-loop-order g l = turns l.initial.held.arena.given l.held
+abbrev pub decreases-loop-held : goal.decreases-loop-held
+decreases-loop-held g l = turns l.initial.held.arena.given l.held

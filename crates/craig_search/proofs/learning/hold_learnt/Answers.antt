@@ -1,5 +1,6 @@
 use Rattle.std.proofs.Common.{◌≡◌, ◌+◌, ℕ, List, All, refl, ap, sym, subst}
 use Rattle.std.specs.Option.{ForSome}
+use Rattle.std.proofs.lemmas.Result.{IfOk-from_err}
 use Rattle.craig_spec.specs.Literal.{Clause}
 use Rattle.craig_spec.specs.Chain.{ChainOk, Derived, IsUnforgotten, antecedents}
 use Rattle.craig_proof.specs.Tracer.{chain_of}
@@ -44,3 +45,27 @@ returns-clause-covers g c =
     let chain = subst (λ (d : Clause). ChainOk (held_clause old.arena) d c.args.learnt.now.first.0 (chain_of c.args.learnt.now.rest)) (sym c.as_slice-lits.ensures) c.requires.derived.chain in
     let chain_too = subst (λ (xs : List Step). ChainOk (held_clause old.arena) c.as_slice-lits.result.now c.args.learnt.now.first.0 (chain_of xs)) (sym c.as_slice-rest.ensures) chain in
     covers-told _ _ old.arena c.hold.new.self.arena _ _ _ _ c.requires.covers c.in_ok-derived.ensures.told c.in_ok-id.ensures.next (ap (λ (h : HeldView). h.arena.given) c.in_ok-id.ensures.held) chain_too (old_or_added old.arena c.hold.new.self.arena c.in_ok-id.id.0 _ c.in_ok-id.ensures.fresh c.in_ok-id.ensures.only)
+
+pub returns-in_err-id-clause-goes_on : goal.returns-in_err-id-clause-goes_on
+returns-in_err-id-clause-goes_on g c = IfOk-from_err _ _ c.from_residual.ensures.0
+
+pub returns-in_err-id-clause-held : goal.returns-in_err-id-clause-held
+returns-in_err-id-clause-held g c = IfOk-from_err _ _ c.from_residual.ensures.0
+
+pub returns-in_err-id-clause-consistent : goal.returns-in_err-id-clause-consistent
+returns-in_err-id-clause-consistent g c = IfOk-from_err _ _ c.from_residual.ensures.0
+
+pub returns-in_err-id-clause-covers : goal.returns-in_err-id-clause-covers
+returns-in_err-id-clause-covers g c = IfOk-from_err _ _ c.from_residual.ensures.0
+
+pub returns-in_err-derived-clause-goes_on : goal.returns-in_err-derived-clause-goes_on
+returns-in_err-derived-clause-goes_on g c = IfOk-from_err _ _ c.from_residual-in_err-derived.ensures.0
+
+pub returns-in_err-derived-clause-held : goal.returns-in_err-derived-clause-held
+returns-in_err-derived-clause-held g c = IfOk-from_err _ _ c.from_residual-in_err-derived.ensures.0
+
+pub returns-in_err-derived-clause-consistent : goal.returns-in_err-derived-clause-consistent
+returns-in_err-derived-clause-consistent g c = IfOk-from_err _ _ c.from_residual-in_err-derived.ensures.0
+
+pub returns-in_err-derived-clause-covers : goal.returns-in_err-derived-clause-covers
+returns-in_err-derived-clause-covers g c = IfOk-from_err _ _ c.from_residual-in_err-derived.ensures.0

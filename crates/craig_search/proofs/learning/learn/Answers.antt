@@ -1,17 +1,25 @@
 use Rattle.std.proofs.Common.{◌<◌, ℕ, All, length, ap, sym, subst, arith}
+use Rattle.std.proofs.lemmas.Result.{IfOk-from_err}
 use Rattle.craig_spec.specs.Literal.{Literal}
+use Rattle.craig_proof.specs.declared.step.Step.{Step}
 use Rattle.craig_watch.specs.Held.{HeldView, MayBeHeld}
 use Rattle.craig_search.specs.Searching.{IsSearching}
-use Rattle.craig_search.proofs.LearntLemmas.{back-below, fits-back, known-falsified}
+use Rattle.craig_search.proofs.LearntLemmas.{back-below, fits-back, known-falsified, known-pivots}
 use Rattle.craig_search.proofs.SearchingLemmas.{IsSearching-moved}
 use Rattle.craig_search.proofs.learning.learn.Goals as goal
 
-pub raise-requires : goal.raise-requires
-raise-requires g c =
+pub raise-requires-clause-lits : goal.raise-requires-clause-lits
+raise-requires-clause-lits g c =
     let h = c.args.held.now in
     let known = known-falsified c.entries_have_places.ensures.false_literal c.entries_have_places.ensures.place h c.in_ok-learnt.learnt.lits c.requires.under_way.consistent c.in_ok-learnt.ensures.asserting.falsified in
     let by_order = subst (λ (n : ℕ). All (λ (l : Literal). l.var < n) c.in_ok-learnt.learnt.lits) (sym c.requires.under_way.ready.known) known in
-    subst (All (λ (l : Literal). l.var < length c.args.order.now.given_back)) (sym c.as_slice-lits.ensures) by_order
+    subst (All (λ (l : Literal). l.var < length c.args.order.now.given_back)) (sym c.as_slice.ensures) by_order
+
+pub raise-requires-clause-pivots : goal.raise-requires-clause-pivots
+raise-requires-clause-pivots g c =
+    let known = known-pivots c.args.held.now c.in_ok-learnt.learnt c.requires.under_way.consistent c.in_ok-learnt.ensures.derived in
+    let by_order = subst (λ (n : ℕ). All (λ (s : Step). s.pivot.var < n) c.in_ok-learnt.learnt.rest) (sym c.requires.under_way.ready.known) known in
+    subst (All (λ (s : Step). s.pivot.var < length c.args.order.now.given_back)) (sym c.as_slice-2.ensures) by_order
 
 pub go_back-requires-clause-below : goal.go_back-requires-clause-below
 go_back-requires-clause-below g c =
@@ -32,3 +40,21 @@ pub returns-clause-goes_on : goal.returns-clause-goes_on
 returns-clause-goes_on g c = λ start before search.
     let moved = subst (λ (h : HeldView). IsSearching start h before (g.T.Tracer.told c.args.tracer.now)) (sym c.go_back.ensures.back) (IsSearching-moved start c.args.held.now before _ _ _ search) in
     c.in_ok-hold_learnt.ensures.goes_on start before moved
+
+pub returns-in_err-learnt-clause-goes_on : goal.returns-in_err-learnt-clause-goes_on
+returns-in_err-learnt-clause-goes_on g c = IfOk-from_err _ _ c.from_residual.ensures.0
+
+pub returns-in_err-learnt-clause-given : goal.returns-in_err-learnt-clause-given
+returns-in_err-learnt-clause-given g c = IfOk-from_err _ _ c.from_residual.ensures.0
+
+pub returns-in_err-learnt-clause-under_way : goal.returns-in_err-learnt-clause-under_way
+returns-in_err-learnt-clause-under_way g c = IfOk-from_err _ _ c.from_residual.ensures.0
+
+pub returns-in_err-hold_learnt-clause-goes_on : goal.returns-in_err-hold_learnt-clause-goes_on
+returns-in_err-hold_learnt-clause-goes_on g c = IfOk-from_err _ _ c.from_residual-in_err-hold_learnt.ensures.0
+
+pub returns-in_err-hold_learnt-clause-given : goal.returns-in_err-hold_learnt-clause-given
+returns-in_err-hold_learnt-clause-given g c = IfOk-from_err _ _ c.from_residual-in_err-hold_learnt.ensures.0
+
+pub returns-in_err-hold_learnt-clause-under_way : goal.returns-in_err-hold_learnt-clause-under_way
+returns-in_err-hold_learnt-clause-under_way g c = IfOk-from_err _ _ c.from_residual-in_err-hold_learnt.ensures.0

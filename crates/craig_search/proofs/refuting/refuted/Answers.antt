@@ -1,5 +1,6 @@
 use Rattle.std.proofs.Common.{List, All, ap, sym, subst, ◌∙◌}
 use Rattle.std.specs.Option.{ForSome, option_map}
+use Rattle.std.proofs.lemmas.Result.{IfOk-from_err}
 use Rattle.craig_spec.specs.Literal.{Clause}
 use Rattle.craig_spec.specs.Chain.{ChainOk, Derived, IsUnforgotten, antecedents}
 use Rattle.craig_proof.specs.Tracer.{Appends, chain_of, derived_step}
@@ -40,3 +41,30 @@ returns-clause-refuted g c =
       chain = subst (λ (d : Clause). ChainOk (held_clause old.arena) d c.in_ok-empty.empty.first.0 (chain_of c.in_ok-empty.empty.rest)) c.in_ok-empty.ensures.empty c.in_ok-empty.ensures.derived.chain;
       told = subst (λ (d : Clause). Appends (g.T.Tracer.told c.args.tracer.now) (g.T.Tracer.told c.derived.new.self) (derived_step c.in_ok-root.root.0 d c.in_ok-empty.empty.first.0 c.in_ok-empty.empty.rest)) empty (subst (λ (xs : List Step). Appends (g.T.Tracer.told c.args.tracer.now) (g.T.Tracer.told c.derived.new.self) (derived_step c.in_ok-root.root.0 c.as_slice-lits.result.now c.in_ok-empty.empty.first.0 xs)) c.as_slice-rest.ensures c.in_ok-derived.ensures.told);
     }
+
+pub returns-in_err-empty-clause-refuted : goal.returns-in_err-empty-clause-refuted
+returns-in_err-empty-clause-refuted g c = IfOk-from_err _ _ c.from_residual.ensures.0
+
+pub returns-in_err-empty-clause-consistent : goal.returns-in_err-empty-clause-consistent
+returns-in_err-empty-clause-consistent g c = IfOk-from_err _ _ c.from_residual.ensures.0
+
+pub returns-in_err-empty-clause-covers : goal.returns-in_err-empty-clause-covers
+returns-in_err-empty-clause-covers g c = IfOk-from_err _ _ c.from_residual.ensures.0
+
+pub returns-in_err-root-clause-refuted : goal.returns-in_err-root-clause-refuted
+returns-in_err-root-clause-refuted g c = IfOk-from_err _ _ c.from_residual-in_err-root.ensures.0
+
+pub returns-in_err-root-clause-consistent : goal.returns-in_err-root-clause-consistent
+returns-in_err-root-clause-consistent g c = IfOk-from_err _ _ c.from_residual-in_err-root.ensures.0
+
+pub returns-in_err-root-clause-covers : goal.returns-in_err-root-clause-covers
+returns-in_err-root-clause-covers g c = IfOk-from_err _ _ c.from_residual-in_err-root.ensures.0
+
+pub returns-in_err-derived-clause-refuted : goal.returns-in_err-derived-clause-refuted
+returns-in_err-derived-clause-refuted g c = IfOk-from_err _ _ c.from_residual-in_err-derived.ensures.0
+
+pub returns-in_err-derived-clause-consistent : goal.returns-in_err-derived-clause-consistent
+returns-in_err-derived-clause-consistent g c = IfOk-from_err _ _ c.from_residual-in_err-derived.ensures.0
+
+pub returns-in_err-derived-clause-covers : goal.returns-in_err-derived-clause-covers
+returns-in_err-derived-clause-covers g c = IfOk-from_err _ _ c.from_residual-in_err-derived.ensures.0

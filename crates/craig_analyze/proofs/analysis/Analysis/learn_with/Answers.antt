@@ -1,5 +1,6 @@
 use Rattle.std.proofs.Common.{◌≡◌, ◌∷◌, ap, sym, subst, refl, ◌∙◌, length, map, All, Contains}
 use Rattle.std.proofs.lemmas.Option.{same_Some}
+use Rattle.std.proofs.lemmas.Result.{IfOk-from_err}
 use Rattle.craig_spec.specs.Literal.{Literal, Clause}
 use Rattle.craig_proof.specs.Tracer.{chain_of}
 use Rattle.craig_watch.specs.Trail.{IsAssigned, level_at}
@@ -61,3 +62,48 @@ returns-clause-asserting c =
     let falsified = learnt-false h c.args.conflict.0 c.in_ok-first.first _ _ _ (view_of c.begin.new.self) (view_of c.find_asserting.new.self) (view_of c.resolve_root.new.self) ok c.requires.level c.in_ok-begin.ensures.begun c.in_ok-first.ensures c.in_ok-resolve_root.ensures in
     let lower = lower-levels h c.args.conflict.0 c.in_ok-first.first _ _ _ (view_of c.begin.new.self) (view_of c.find_asserting.new.self) (view_of c.resolve_root.new.self) ok c.requires.level c.in_ok-begin.ensures.begun c.in_ok-first.ensures c.in_ok-resolve_root.ensures in
     learnt-asserting h c.args.conflict.0 c.in_ok-first.first _ _ _ (view_of c.begin.new.self) (view_of c.find_asserting.new.self) (view_of c.resolve_root.new.self) ok c.requires.level c.in_ok-begin.ensures.begun c.in_ok-first.ensures c.in_ok-resolve_root.ensures _ lits back glue (c.conflicts_above_the_root.ensures.new h c.in_ok-first.first _ ok c.requires.level falsified lower)
+
+pub returns-in_err-begin-clause-derived : goal.returns-in_err-begin-clause-derived
+returns-in_err-begin-clause-derived c = IfOk-from_err _ _ c.from_residual.ensures.0
+
+pub returns-in_err-begin-clause-begins : goal.returns-in_err-begin-clause-begins
+returns-in_err-begin-clause-begins c = IfOk-from_err _ _ c.from_residual.ensures.0
+
+pub returns-in_err-begin-clause-asserting : goal.returns-in_err-begin-clause-asserting
+returns-in_err-begin-clause-asserting c = IfOk-from_err _ _ c.from_residual.ensures.0
+
+pub returns-in_err-first-clause-derived : goal.returns-in_err-first-clause-derived
+returns-in_err-first-clause-derived c = IfOk-from_err _ _ c.from_residual-in_err-first.ensures.0
+
+pub returns-in_err-first-clause-begins : goal.returns-in_err-first-clause-begins
+returns-in_err-first-clause-begins c = IfOk-from_err _ _ c.from_residual-in_err-first.ensures.0
+
+pub returns-in_err-first-clause-asserting : goal.returns-in_err-first-clause-asserting
+returns-in_err-first-clause-asserting c = IfOk-from_err _ _ c.from_residual-in_err-first.ensures.0
+
+pub returns-in_err-resolve_root-clause-derived : goal.returns-in_err-resolve_root-clause-derived
+returns-in_err-resolve_root-clause-derived c = IfOk-from_err _ _ c.from_residual-in_err-resolve_root.ensures.0
+
+pub returns-in_err-resolve_root-clause-begins : goal.returns-in_err-resolve_root-clause-begins
+returns-in_err-resolve_root-clause-begins c = IfOk-from_err _ _ c.from_residual-in_err-resolve_root.ensures.0
+
+pub returns-in_err-resolve_root-clause-asserting : goal.returns-in_err-resolve_root-clause-asserting
+returns-in_err-resolve_root-clause-asserting c = IfOk-from_err _ _ c.from_residual-in_err-resolve_root.ensures.0
+
+pub returns-in_err-lits-clause-derived : goal.returns-in_err-lits-clause-derived
+returns-in_err-lits-clause-derived c = IfOk-from_err _ _ c.from_residual-in_err-lits.ensures.0
+
+pub returns-in_err-lits-clause-begins : goal.returns-in_err-lits-clause-begins
+returns-in_err-lits-clause-begins c = IfOk-from_err _ _ c.from_residual-in_err-lits.ensures.0
+
+pub returns-in_err-lits-clause-asserting : goal.returns-in_err-lits-clause-asserting
+returns-in_err-lits-clause-asserting c = IfOk-from_err _ _ c.from_residual-in_err-lits.ensures.0
+
+pub returns-in_err-glue-clause-derived : goal.returns-in_err-glue-clause-derived
+returns-in_err-glue-clause-derived c = IfOk-from_err _ _ c.from_residual-in_err-glue.ensures.0
+
+pub returns-in_err-glue-clause-begins : goal.returns-in_err-glue-clause-begins
+returns-in_err-glue-clause-begins c = IfOk-from_err _ _ c.from_residual-in_err-glue.ensures.0
+
+pub returns-in_err-glue-clause-asserting : goal.returns-in_err-glue-clause-asserting
+returns-in_err-glue-clause-asserting c = IfOk-from_err _ _ c.from_residual-in_err-glue.ensures.0

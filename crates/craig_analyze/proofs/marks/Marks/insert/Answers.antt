@@ -1,4 +1,5 @@
 use Rattle.std.proofs.Common.{◌≡◌, false, refl, ap, sym, ◌∙◌, get_or, length, arith, ◌<◌}
+use Rattle.std.proofs.lemmas.Result.{IfOk-from_err}
 use Rattle.craig_analyze.proofs.CountLemmas.{AreMarks-insert, flagged-marked, unflagged-unmarked}
 use Rattle.craig_analyze.proofs.marks.Marks.insert.Goals as goal
 
@@ -22,3 +23,9 @@ returns-clause-marked c =
     let h = c.self.inside in
     let off : get_or h.flags.items c.args.number false ≡ false = sym (c.is_set.ensures ∙ ap (λ xs. get_or xs c.args.number false) c.as_slice.ensures.value) ∙ c.if-is_set.false in
     rw (← c.self.view_is) (unflagged-unmarked h.flags.items h.marked.items c.args.number c.self.invariant off, c.in_ok-push.ensures.items)
+
+pub returns-in_err-grow-clause-marked : goal.returns-in_err-grow-clause-marked
+returns-in_err-grow-clause-marked c = IfOk-from_err _ _ c.from_residual.ensures.0
+
+pub returns-in_err-push-clause-marked : goal.returns-in_err-push-clause-marked
+returns-in_err-push-clause-marked c = IfOk-from_err _ _ c.from_residual-in_err-push.ensures.0

@@ -49,4 +49,4 @@ returns c =
     let pivot = c.not-pivot.ensures ∙ ap negation read in
     let pushed : c.push.new.self ≡ c.args.steps.now ++ step ∷ [] = c.in_ok-push.ensures.pushed ∙ ap (λ (p : Literal). c.args.steps.now ++ record { pivot = p; antecedent = c.in-Some.antecedent } ∷ []) pivot in
     let chain : chain_of c.push.new.self ≡ chain_of c.args.steps.now ++ record { pivot = negated_at h.trail c.args.place; antecedent = c.in-Some.antecedent.0 } ∷ [] = ap chain_of pushed ∙ chain_of-push c.args.steps.now step in
-    on_ok_weaker c.meet.result (λ met. subst (λ (after : List ChainStep). HasResolved h c.args.place (chain_of c.args.steps.now) after (view_of c.args.self.now) (view_of c.meet.new.self)) (sym chain) (HasResolved-met h c.args.place c.in-Some.antecedent.0 (chain_of c.args.steps.now) (view_of c.args.self.now) (view_of c.meet.new.self) ok c.requires reason met)) c.meet.ensures.met
+    on_ok_weaker c.meet.result (λ met. subst (λ (after : List ChainStep). HasResolved c.args.staying h c.args.place (chain_of c.args.steps.now) after (view_of c.args.self.now) (view_of c.meet.new.self)) (sym chain) (HasResolved-met c.args.staying h c.args.place c.in-Some.antecedent.0 (chain_of c.args.steps.now) (view_of c.args.self.now) (view_of c.meet.new.self) ok c.requires reason met)) c.meet.ensures.met

@@ -5,9 +5,8 @@ use Rattle.craig_spec.specs.Literal.{Clause}
 use Rattle.craig_spec.specs.Truth.{Assignment, IsModel, clause_value}
 use Rattle.craig_spec.specs.Occurs.{Occurs, occurs_in_clause}
 use Rattle.craig_base.specs.declared.script_part.Part.{Part}
-use Rattle.craig_spec.proofs.MemberLemmas.{Contains-from_image, Contains-image, list_all-member, list_any-find, list_any-member}
+use Rattle.craig_spec.proofs.MemberLemmas.{Contains-from_image, Contains-image, list_all-member, list_any-find, list_any-member, list_all-members}
 use Rattle.craig_solver.specs.Answer.{accepted_clauses}
-use Rattle.craig_solver.proofs.ListLemmas.{list_all-members}
 
 clause-more : (xs : List (Part × Clause)) (p : Part × Clause) (c : Clause) → Contains (accepted_clauses xs) c → Contains (accepted_clauses (xs ++ p ∷ [])) c
 clause-more xs p c here =

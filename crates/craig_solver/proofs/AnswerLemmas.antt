@@ -24,8 +24,7 @@ use Rattle.craig_solver.specs.Settling.{AreValuesOf, IsAnswerFor}
 use Rattle.craig_solver.specs.Answer.{IsAnswer, accepted_clauses}
 use Rattle.craig_solver.specs.State.{AreHeldFor}
 use Rattle.craig_spec.proofs.ClauseLemmas.{SameLiterals-sym, SameLiterals-trans, clause_value-member, clause_value-same}
-use Rattle.craig_spec.proofs.MemberLemmas.{Contains-from_image, Contains-front}
-use Rattle.craig_solver.proofs.ListLemmas.{list_all-members}
+use Rattle.craig_spec.proofs.MemberLemmas.{Contains-from_image, Contains-front, list_all-members}
 use Rattle.craig_solver.proofs.SearchedLemmas.{held-model, held-occurs}
 
 -- what is said of an answer, and what is said where there is one

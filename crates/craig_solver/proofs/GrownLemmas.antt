@@ -49,6 +49,8 @@ IsState-grown s n p vars state is ok grown =
       clauses = held-grown s.accepted s.held vars state.clauses;
       ids = state.ids;
       originals = state.originals;
+      rests = state.rests;
       all_told = state.all_told;
       root_of = state.root_of;
+      units_of = state.units_of;
     })

@@ -1,6 +1,6 @@
 -- A solver that holds one clause more, and accepts it.
 use Rattle.std.proofs.Common.{◌≡◌, ◌≢◌, inl, inr, ℕ, ◌+◌, ◌<◌, Bool, false, cond, List, [], ◌∷◌, ◌++◌, All, Contains, Option, Some, None, get_or, refl, sym, ap, subst, ◌∙◌, arith, ne_eqb, true}
-use Rattle.std.specs.Option.{option_map, option_map_or}
+use Rattle.std.specs.Option.{ForSome, option_map, option_map_or}
 use Rattle.std.proofs.lemmas.List.{map-append}
 use Rattle.std.proofs.lemmas.List.Elements.{All-contains, All-push, All-weaker, Contains-append_left, Contains-push, Contains-push_cases}
 use Rattle.std.proofs.lemmas.List.Quantifiers.{all_pairs_push}
@@ -14,7 +14,7 @@ use Rattle.craig_base.specs.Arena.{ArenaView, FlaggedClause, ChangesOnly, IsAren
 use Rattle.craig_base.specs.Clauses.{IsNormal, IsTautology}
 use Rattle.craig_base.specs.declared.clause_id.ClauseId.{ClauseId}
 use Rattle.craig_base.specs.declared.script_part.Part.{Part}
-use Rattle.craig_proof.specs.Covers.{IsCovering, IsOldOrNext}
+use Rattle.craig_proof.specs.Covers.{Covers, IsCovering, IsOldOrNext}
 use Rattle.craig_proof.specs.Tracer.{Appends, original_step}
 use Rattle.craig_watch.specs.Held.{HeldView, IsConsistent, held_clause}
 use Rattle.craig_watch.specs.Trail.{IsAssigned}
@@ -22,10 +22,11 @@ use Rattle.craig_base.proofs.LookUpLemmas.{added-before, added-held, added-here,
 use Rattle.craig_proof.proofs.AppendsLemmas.{before_step}
 use Rattle.craig_proof.proofs.CoversLemmas.{IsCovering-original}
 use Rattle.craig_proof.proofs.OldOrNextLemmas.{old_or_added}
-use Rattle.craig_solver.specs.State.{AreHeldFor, AreHeldIds, IsHeld, IsRootOf, IsState, StateView, accepting, clauses_under}
+use Rattle.craig_solver.specs.State.{AreHeldFor, AreHeldIds, AreUnitsOf, RestOnAccepted, IsHeld, IsRootOf, IsState, StateView, accepting, clauses_under}
 use Rattle.craig_solver.proofs.AcceptedLemmas.{IsModel-fewer, IsModel-last, Occurs-last, Occurs-more}
 use Rattle.craig_solver.proofs.ListLemmas.{map-alike}
-use Rattle.craig_solver.proofs.ToldLemmas.{AreAccepted-more, AreAccepted-original, AreAllTold-original, AreAllTold-tautology, unforgotten-below}
+use Rattle.craig_solver.proofs.RestLemmas.{RestOnAccepted-more, RestOnAccepted-original}
+use Rattle.craig_solver.proofs.ToldLemmas.{AreOriginals-more, AreOriginals-original, AreAllTold-original, AreAllTold-tautology, unforgotten-below}
 
 -- a tautology is accepted, and nothing else changes
 pub IsState-tautology : (s : StateView) (part : Part) (c : Clause) → IsState s → IsTautology c → All (λ (l : Literal). l.var < s.held.vars) c → IsState (accepting part c s)
@@ -44,9 +45,11 @@ IsState-tautology s part c state tautology known = record {
     variables = λ id x d is occurs. Occurs-more s.accepted (part, c) x (state.clauses.variables id x d is occurs);
   };
   ids = state.ids;
-  originals = AreAccepted-more s.accepted (part, c) s.told state.originals;
+  originals = AreOriginals-more s.accepted (part, c) s.root s.units s.told state.originals;
+  rests = λ t at. RestOnAccepted-more s.accepted (part, c) s.held.arena t (state.rests t at);
   all_told = AreAllTold-tautology s.accepted (part, c) s.told tautology state.all_told;
   root_of = state.root_of;
+  units_of = state.units_of;
 }
 
 module _ (a b : ArenaView) (id : ℕ) (f : FlaggedClause) (fresh : clause_at a id ≡ None) (only : ChangesOnly a b id (Some f)) where
@@ -123,12 +126,29 @@ module _ (s : StateView) (after : Option Told) (n : HeldView) (id : ClauseId) (p
         ap (option_map (λ (g : FlaggedClause). g.literals)) (elsewhere s.held.arena n.arena id.0 f fresh only r.0 (λ same. omega (arith, low, same, next))) ∙ old.2,
       )
 
+  units-added : AreUnitsOf after n.arena s.root s.units
+  units-added = record {
+    room = state.units_of.room;
+    each = λ x unit u told.
+        let was = before_step s.told after (original_step id.0 part.0 f.literals) u appends told in
+        let old = state.units_of.each x unit was.0 was.1 in
+        let low : x < s.held.arena.given = unforgotten-below was.0 (held_clause s.held.arena) s.held.arena.given x (state.begins.covers was.0 was.1) old.0 in (
+          subst (λ (t : Told). IsUnforgotten t.steps x) (sym was.2) (IsUnforgotten-pushed was.0.steps (original_step id.0 part.0 f.literals) x old.0),
+          ap (option_map (λ (g : FlaggedClause). g.literals)) (elsewhere s.held.arena n.arena id.0 f fresh only x (λ same. omega (arith, low, same, next))) ∙ old.1,
+        );
+  }
+
+  rests-added : SameLiterals written f.literals → IsNormal f.literals → ForSome after (RestOnAccepted (s.accepted ++ (part, written) ∷ []) n.arena)
+  rests-added same normal u told =
+      let was = before_step s.told after (original_step id.0 part.0 f.literals) u appends told in
+      RestOnAccepted-original s.accepted s.held.arena n.arena part written f id.0 was.0 u fresh only (subst (Covers was.0 (held_clause s.held.arena)) (sym next) (state.begins.covers was.0 was.1)) was.2 same normal (state.rests was.0 was.1)
+
   covers-added : IsCovering after (held_clause n.arena) n.arena.given
   covers-added =
       let given : n.arena.given ≡ s.held.arena.given + 1 = ap (λ (m : HeldView). m.arena.given) is in
       subst (IsCovering after (held_clause n.arena)) (sym given) (IsCovering-original s.told after (held_clause s.held.arena) (held_clause n.arena) s.held.arena.given part.0 f.literals state.begins.covers (subst (λ (k : ℕ). Appends s.told after (original_step k part.0 f.literals)) next appends) (subst (λ (k : ℕ). IsOldOrNext (held_clause s.held.arena) (held_clause n.arena) k f.literals) next (old_or_added s.held.arena n.arena id.0 f fresh only)))
 
-  pub IsState-original : IsConsistent n → f.flags.learnt ≡ false → IsNormal f.literals → SameLiterals written f.literals → All (λ (l : Literal). l.var < s.held.vars) written → IsState (record { accepted = s.accepted ++ (part, written) ∷ []; held = n; order = s.order; told = after; held_ids = longer; root = s.root })
+  pub IsState-original : IsConsistent n → f.flags.learnt ≡ false → IsNormal f.literals → SameLiterals written f.literals → All (λ (l : Literal). l.var < s.held.vars) written → IsState (record { accepted = s.accepted ++ (part, written) ∷ []; held = n; order = s.order; told = after; held_ids = longer; root = s.root; units = s.units })
   IsState-original ok not_learnt normal same known = record {
     begins = record {
       level = ap (λ (m : HeldView). m.level) is ∙ state.begins.level;
@@ -143,9 +163,11 @@ module _ (s : StateView) (after : Option Told) (n : HeldView) (id : ClauseId) (p
     order_alive = state.order_alive;
     clauses = subst (AreHeldFor (s.accepted ++ (part, written) ∷ []) n.arena) (sym (ap (λ (m : HeldView). m.vars) is)) (AreHeldFor-added s.held.arena n.arena id.0 f fresh only s.accepted (part, written) s.held.vars not_learnt same known state.clauses);
     ids = subst (AreHeldIds n.arena) (sym pushed) (AreHeldIds-added s.held.arena n.arena id.0 f fresh only s.held_ids id refl not_learnt state.ids (λ k was. subst (λ (m : ℕ). k.0 < m) (sym next) (live-below s.held.arena k.0 was.0 state.consistent.arena was.1)));
-    originals = AreAccepted-original s.accepted part written f.literals id.0 s.told after state.originals appends same normal;
+    originals = AreOriginals-original s.accepted part written f.literals id.0 s.root s.units s.told after state.originals appends same normal;
+    rests = rests-added same normal;
     all_told = AreAllTold-original s.accepted part written f.literals id.0 s.told after state.all_told appends same;
     root_of = root-added state;
+    units_of = units-added;
   }
 
 -- the same with another name for the accepted clauses

@@ -1,11 +1,11 @@
 -- A solver after a search.
-use Rattle.std.proofs.Common.{◌≡◌, inl, inr, ℕ, ◌<◌, true, false, List, [], ◌∷◌, Option, Some, None, length, get_or, refl, sym, ap, subst, ◌∙◌, arith}
+use Rattle.std.proofs.Common.{◌≡◌, ◌⊎◌, inl, inr, ℕ, ◌+◌, ◌<◌, ◌≤◌, Bool, true, false, ltb, List, [], ◌∷◌, Contains, Option, Some, None, length, get_or, refl, sym, ap, subst, ◌∙◌, arith}
 use Rattle.std.specs.Option.{ForSome, is_some, option_map_or}
-use Rattle.std.proofs.lemmas.Bool.{cases_lt}
+use Rattle.std.proofs.lemmas.Bool.{cases_lt, lt-ltb, ltb-true}
 use Rattle.std.proofs.lemmas.List.{get_or-map, length-map}
 use Rattle.std.proofs.lemmas.List.Elements.{All-weaker}
 use Rattle.craig_spec.specs.Literal.{Clause}
-use Rattle.craig_spec.specs.Chain.{Derived, SameLiterals, Told, IsUnforgotten, clause_told}
+use Rattle.craig_spec.specs.Chain.{Derived, SameLiterals, Told, ToldStep, IsTold, IsUnforgotten, clause_told}
 use Rattle.craig_spec.specs.Needed.{IsOriginal}
 use Rattle.craig_spec.specs.Occurs.{Occurs, occurs_in_clause}
 use Rattle.craig_spec.specs.Truth.{Assignment, IsModel}
@@ -15,7 +15,8 @@ use Rattle.craig_base.specs.Arena.{ArenaView, FlaggedClause, IsArena, clause_at,
 use Rattle.craig_base.specs.declared.clause_id.ClauseId.{ClauseId}
 use Rattle.craig_base.specs.declared.script_part.Part.{Part}
 use Rattle.craig_base.proofs.FoundLemmas.{IsModel-from_found, literals_of-Contains}
-use Rattle.craig_proof.specs.Covers.{IsCovering}
+use Rattle.craig_proof.specs.Covers.{Covers, IsCovering}
+use Rattle.craig_proof.specs.Tracer.{original_step}
 use Rattle.craig_proof.proofs.AppendsLemmas.{told_before}
 use Rattle.craig_proof.proofs.PartLemmas.{IsUnforgotten-step, clause_told-found}
 use Rattle.craig_watch.specs.Held.{HeldView, held_clause}
@@ -24,14 +25,15 @@ use Rattle.craig_search.specs.declared.verdict.Verdict.{Verdict}
 use Rattle.craig_search.specs.declared.verdict.Verdict.TheVariants.{Model, Failed, Limit}
 use Rattle.craig_search.specs.Leaves.{Leaves}
 use Rattle.craig_search.specs.Search.{IsSearched}
-use Rattle.craig_search.specs.Tells.{IsRoot, IsUnitId, IsVerdictTold, Tells}
-use Rattle.craig_search.specs.Verdict.{AreFirstPlaces, Assumptions, IsVerdict}
-use Rattle.craig_search.proofs.LawLemmas.{TellsVerdict-stay}
-use Rattle.craig_solver.specs.Settling.{IsAtRoot, root_of_verdict}
+use Rattle.craig_search.specs.Tells.{IsRoot, IsUnitId, IsVerdictTold, Tells, TellsVerdict, WasTold}
+use Rattle.craig_search.specs.Verdict.{Assumptions, HasUnitIds, IsVerdict}
+use Rattle.craig_search.proofs.LawLemmas.{TellsVerdict-stay, unit-step, unit-told}
+use Rattle.craig_solver.specs.Settling.{IsAtRoot, root_of_verdict, units_of_verdict}
 use Rattle.craig_solver.specs.Answer.{accepted_clauses}
 use Rattle.craig_solver.specs.Solver.{AreReordered}
-use Rattle.craig_solver.specs.State.{AreHeldFor, AreHeldIds, IsRootOf, IsState, StateView, clauses_under}
-use Rattle.craig_solver.specs.Told.{AreAccepted, AreAllTold}
+use Rattle.craig_solver.specs.State.{AreHeldFor, AreHeldIds, AreOriginals, AreUnitsOf, IsAssumedStep, IsLastUnit, IsRootOf, IsState, RestOnAccepted, StateView, clauses_under}
+use Rattle.craig_solver.specs.Told.{AreAllTold, IsAcceptedStep}
+use Rattle.craig_solver.proofs.RestLemmas.{RestOnAccepted-searched}
 use Rattle.craig_solver.proofs.ToldLemmas.{AreAllTold-still, IsAcceptedStep-same}
 
 -- a model of the accepted clauses is one of the held ones
@@ -96,40 +98,62 @@ module _ (h n : HeldView) (left : Leaves h n) where
         subst (λ (f : Clause). SameLiterals f (get_or (clauses_under n.arena kept) k d)) (sym old) (subst (SameLiterals c.0.literals) (sym new) e.2.literals);
   }
 
-no-places : (places : List ℕ) → AreFirstPlaces [] places → places ≡ []
-no-places [] first = refl
-no-places (p ∷ places) first =
-    let at = first.first 0 p (omega arith) in
-    absurd (let no : None ≡ Some at.0 = at.1 in cc)
+-- an original from before, where no unit was left, is that of an accepted clause, or stays forgotten
+was-original : (accepted : List (Part × Clause)) (units more : ℕ) (root : Option ClauseId) (t : Told) (s : ToldStep) (f : Bool) → AreOriginals accepted None units t → (was : WasTold t s) → was.0.forgotten ≡ f → IsOriginal s.origin → IsAcceptedStep accepted s ⊎ IsAssumedStep root more s
+was-original accepted units more root t s f all was is original =
+    elim (all was.0 was.1 (subst IsOriginal (sym was.4) original)) [
+      | inl old ↦ inl (IsAcceptedStep-same accepted was.0 s (sym was.4) (sym was.3) old)
+      | inr assumed ↦ inr (record {
+        unit = (assumed.unit.0, sym was.3 ∙ assumed.unit.1);
+        last = λ stays. absurd (elim (stays-or_not was.0.forgotten) [
+          | inl gone ↦ (let odd : true ≡ false = sym (was.5 gone) ∙ stays in cc)
+          | inr kept ↦ no-root (assumed.last kept)
+        ]);
+      })
+    ] where
+      stays-or_not : (b : Bool) → (b ≡ true) ⊎ (b ≡ false)
+      stays-or_not true = inl refl
+      stays-or_not false = inr refl
 
-no-unit : (root id : ℕ) (places : List ℕ) → places ≡ [] → IsUnitId root places id → ⊥
-no-unit root id places none unit =
-    let size : length places ≡ 0 = ap (λ (xs : List ℕ). length xs) none in
-    omega (arith, size, unit.0, unit.1)
+      no-root : IsLastUnit None units was.0.id → ⊥
+      no-root unit = let no : None ≡ Some unit.0 = unit.1 in cc
 
--- the originals that were told by then, where no unit was told
-originals-kept : (accepted : List (Part × Clause)) (lent : ℕ → Option Clause) (first : ℕ) (IsUnit : ℕ → Type 0) (t u : Told) → ((id : ℕ) → ¬ IsUnit id) → Tells lent first IsUnit t u → AreAccepted accepted t → AreAccepted accepted u
-originals-kept accepted lent first IsUnit t u none tells all s here original =
+-- the originals after a search
+originals-kept : (accepted : List (Part × Clause)) (units more : ℕ) (root : Option ClauseId) (lent : ℕ → Option Clause) (first : ℕ) (IsUnitOf : ℕ → Type 0) (t u : Told) → AreOriginals accepted None units t → Tells lent first IsUnitOf t u → ((s : ToldStep) → Contains u.steps s → IsUnitOf s.id → IsAssumedStep root more s) → AreOriginals accepted root more u
+originals-kept accepted units more root lent first IsUnitOf t u all tells assumed s here original =
     elim (tells.steps s here) [
-      | inl was ↦ IsAcceptedStep-same accepted was.0 s (sym was.4) (sym was.3) (all was.0 was.1 (subst IsOriginal (sym was.4) original))
-      | inr of ↦ absurd (none s.id (of.originals original))
+      | inl was ↦ was-original accepted units more root t s was.0.forgotten all was refl original
+      | inr of ↦ inr (assumed s here (of.originals original))
     ]
 
--- what is told by the verdict, in one record for all verdicts
-tells-originals : (accepted : List (Part × Clause)) (h n : HeldView) (assumptions : Assumptions) (limit : Option ℕ) (v : Verdict) (t u : Told) → assumptions ≡ [] → IsVerdict h n assumptions limit v → IsVerdictTold h n assumptions v (Some t) (Some u) → AreAccepted accepted t → AreAccepted accepted u
-tells-originals accepted h n assumptions limit Model t u none is told all =
-    originals-kept accepted (held_clause h.arena) h.arena.given (λ id. ⊥) t u (λ id no. no) (told t u refl refl) all
-tells-originals accepted h n assumptions limit (Failed root places) t u none is told all =
-    let empty = no-places places (subst (λ (xs : Assumptions). AreFirstPlaces xs places) none is.first_places) in
-    originals-kept accepted (held_clause h.arena) h.arena.given (IsUnitId root.0 places) t u (λ id unit. no-unit root.0 id places empty unit) (told t u refl refl).0 all
-tells-originals accepted h n assumptions limit (Limit lemmas) t u none is told all =
-    originals-kept accepted (held_clause h.arena) h.arena.given (λ id. ⊥) t u (λ id no. no) (told t u refl refl) all
+originals-cases : (accepted : List (Part × Clause)) (units : ℕ) (h n : HeldView) (assumptions : Assumptions) (limit : Option ℕ) (v : Verdict) (t u : Told) → AreOriginals accepted None units t → IsVerdict h n assumptions limit v → TellsVerdict h n assumptions v t u → IsTold u → AreOriginals accepted (root_of_verdict v) (units_of_verdict v) u
+originals-cases accepted units h n assumptions limit Model t u all is told stands =
+    originals-kept accepted units 0 None (held_clause h.arena) h.arena.given (λ id. ⊥) t u all told (λ s here no. absurd no)
+originals-cases accepted units h n assumptions limit (Failed root places) t u all is told stands =
+    originals-kept accepted units (length places) (Some root) (held_clause h.arena) h.arena.given (IsUnitId root.0 places) t u all told.0 (λ s here unit.
+    let one = unit-step n assumptions root.0 places t u told.1 is.first_places stands s here unit in
+    record { unit = (one.assumed.1, one.literals); last = λ stays. (root, refl, unit.0, unit.1) })
+originals-cases accepted units h n assumptions limit (Limit lemmas) t u all is told stands =
+    originals-kept accepted units 0 None (held_clause h.arena) h.arena.given (λ id. ⊥) t u all told (λ s here no. absurd no)
 
-module _ (accepted : List (Part × Clause)) (h n : HeldView) (assumptions : Assumptions) (limit : Option ℕ) (none : assumptions ≡ []) where
-  pub originals-searched : (v : Verdict) (before after : Option Told) → is_some after ≡ is_some before → IsVerdict h n assumptions limit v → IsVerdictTold h n assumptions v before after → ForSome before (AreAccepted accepted) → ForSome after (AreAccepted accepted)
-  originals-searched v before after tells is told all u at =
-      let t = told_before before after u tells at in
-      tells-originals accepted h n assumptions limit v t.0 u none is (subst (λ (a : Option Told). IsVerdictTold h n assumptions v (Some t.0) a) at (subst (λ (b : Option Told). IsVerdictTold h n assumptions v b after) t.1 told)) (all t.0 t.1)
+-- the held clauses come before the units
+below-units : (n : HeldView) (assumptions : Assumptions) (root : ℕ) (places : List ℕ) (t u : Told) → IsRoot n assumptions root places t u → (id : ℕ) (c : Clause) → held_clause n.arena id ≡ Some c → id + length places < root
+below-units n assumptions root places t u is id c held =
+    let low : id < root = is.last id c held in
+    elim (cases_lt (id + length places) root) [
+      | inl below ↦ below
+      | inr high ↦ absurd (let none = is.units_not_held id (low, high) in let no : None ≡ Some c = sym none ∙ held in cc)
+    ]
+
+-- what the held clauses rest on after it
+rests-cases : (accepted : List (Part × Clause)) (h n : HeldView) (assumptions : Assumptions) (v : Verdict) (t u : Told) → IsArena h.arena → IsArena n.arena → Covers t (held_clause h.arena) h.arena.given → IsTold u → Leaves h n → TellsVerdict h n assumptions v t u → RestOnAccepted accepted h.arena t → RestOnAccepted accepted n.arena u
+rests-cases accepted h n assumptions Model t u ok new_ok covers stands left told rest =
+    RestOnAccepted-searched accepted h (λ id. ⊥) t u told ok covers stands rest (λ x. true) (λ x y le on. refl) n left (λ id c is. refl) (λ id no on. no)
+rests-cases accepted h n assumptions (Failed root places) t u ok new_ok covers stands left told rest =
+    RestOnAccepted-searched accepted h (IsUnitId root.0 places) t u told.0 ok covers stands rest (λ x. ltb (x + length places) root.0) (λ x y le on. (let low : x + length places < root.0 = ltb-true (x + length places) root.0 on in lt-ltb (y + length places) root.0 (omega (arith, low, le)))) n left (λ id c is.
+    lt-ltb (id + length places) root.0 (below-units n assumptions root.0 places t u told.1 id c is)) (λ id unit on. (let low : id + length places < root.0 = ltb-true (id + length places) root.0 on in omega (arith, low, unit.1)))
+rests-cases accepted h n assumptions (Limit lemmas) t u ok new_ok covers stands left told rest =
+    RestOnAccepted-searched accepted h (λ id. ⊥) t u told ok covers stands rest (λ x. true) (λ x y le on. refl) n left (λ id c is. refl) (λ id no on. no)
 
 -- each accepted clause is told still
 all-told-searched : (accepted : List (Part × Clause)) (h n : HeldView) (assumptions : Assumptions) (v : Verdict) (before after : Option Told) → is_some after ≡ is_some before → IsVerdictTold h n assumptions v before after → ForSome before (AreAllTold accepted) → ForSome after (AreAllTold accepted)
@@ -154,9 +178,30 @@ root-searched h n assumptions (Failed root places) before after tells told cover
     (subst (λ (x : ClauseId). IsUnforgotten u.steps x.0) same (root-unforgotten n assumptions root.0 places t.0 u r), subst (λ (x : ClauseId). clause_told u.steps x.0 ≡ Some []) same empty, subst (λ (x : ClauseId). held_clause n.arena x.0 ≡ None) same r.root_not_held)
 root-searched h n assumptions (Limit lemmas) before after tells told covers id is = absurd (let no : None ≡ Some id = is in cc)
 
+-- and its units
+units-searched : (h n : HeldView) (assumptions : Assumptions) (limit : Option ℕ) (v : Verdict) (before after : Option Told) → is_some after ≡ is_some before → IsVerdict h n assumptions limit v → HasUnitIds h v → IsVerdictTold h n assumptions v before after → AreUnitsOf after n.arena (root_of_verdict v) (units_of_verdict v)
+units-searched h n assumptions limit Model before after tells is ids told = record {
+  room = λ r none. absurd (let no : None ≡ Some r = none in cc);
+  each = λ x unit. absurd (let no : None ≡ Some unit.0 = unit.1 in cc);
+}
+units-searched h n assumptions limit (Failed root places) before after tells is ids told = record {
+  room = λ r at. (let enough : h.arena.given + length places ≤ root.0 = ids in let same : root.0 ≡ r.0 = ap (λ (c : ClauseId). c.0) (some-same root r at) in omega (arith, enough, same));
+  each = λ x last u at.
+      let t = told_before before after u tells at in
+      let r = (told t.0 u t.1 at).1 in
+      let same : last.0 ≡ root = sym (some-same root last.0 last.1) in
+      let unit : IsUnitId root.0 places x = (subst (λ (c : ClauseId). x < c.0) same last.2, subst (λ (c : ClauseId). c.0 ≤ x + length places) same last.3) in
+      let one = unit-told n assumptions root.0 places t.0 u r is.first_places x unit in
+      (IsUnforgotten-step u.steps (original_step x (one.0).0.0 ((one.0).1 ∷ [])) one.2 refl, r.units_not_held x unit);
+}
+units-searched h n assumptions limit (Limit lemmas) before after tells is ids told = record {
+  room = λ r none. absurd (let no : None ≡ Some r = none in cc);
+  each = λ x unit. absurd (let no : None ≡ Some unit.0 = unit.1 in cc);
+}
+
 -- the state after a search, at level 0 again
-pub IsState-searched : (s : StateView) (n m : HeldView) (o p : OrderView) (after : Option Told) (root : Option ClauseId) (assumptions : Assumptions) (limit : Option ℕ) (v : Verdict) → IsState s → assumptions ≡ [] → IsSearched s.held n o s.told after assumptions limit v → is_some after ≡ is_some s.told → o.dead ≡ s.order.dead → root ≡ root_of_verdict v → IsAtRoot n m p → p.dead ≡ o.dead → IsState (record s { held = m; order = p; told = after; root = root })
-IsState-searched s n m o p after root assumptions limit v state none searched tells alive root_is at_root still_alive = record {
+pub IsState-searched : (s : StateView) (n m : HeldView) (o p : OrderView) (after : Option Told) (root : Option ClauseId) (units : ℕ) (assumptions : Assumptions) (limit : Option ℕ) (v : Verdict) → IsState s → s.root ≡ None → IsSearched s.held n o s.told after assumptions limit v → is_some after ≡ is_some s.told → o.dead ≡ s.order.dead → root ≡ root_of_verdict v → units ≡ units_of_verdict v → IsAtRoot n m p → p.dead ≡ o.dead → IsState (record s { held = m; order = p; told = after; root = root; units = units })
+IsState-searched s n m o p after root units assumptions limit v state none searched tells alive root_is units_is at_root still_alive = record {
   begins = record {
     level = at_root.level;
     ready = at_root.ready;
@@ -167,9 +212,15 @@ IsState-searched s n m o p after root assumptions limit v state none searched te
   order_alive = still_alive ∙ alive ∙ state.order_alive;
   clauses = subst (λ (a : ArenaView). AreHeldFor s.accepted a m.vars) (sym at_root.arena) (subst (AreHeldFor s.accepted n.arena) (sym (at_root.vars ∙ searched.leaves.vars)) (AreHeldFor-searched s.held n searched.leaves s.accepted s.held.vars state.consistent.arena state.clauses));
   ids = subst (λ (a : ArenaView). AreHeldIds a s.held_ids) (sym at_root.arena) (AreHeldIds-searched s.held n searched.leaves s.held_ids state.ids);
-  originals = originals-searched s.accepted s.held n assumptions limit none v s.told after tells searched.verdict searched.told state.originals;
+  originals = λ u at.
+      let t = told_before s.told after u tells at in
+      subst (λ (k : ℕ). AreOriginals s.accepted root k u) (sym units_is) (subst (λ (r : Option ClauseId). AreOriginals s.accepted r (units_of_verdict v) u) (sym root_is) (originals-cases s.accepted s.units s.held n assumptions limit v t.0 u (subst (λ (r : Option ClauseId). AreOriginals s.accepted r s.units t.0) none (state.originals t.0 t.1)) searched.verdict (searched.told t.0 u t.1 at) (searched.covers u at).stand));
+  rests = λ u at.
+      let t = told_before s.told after u tells at in
+      subst (λ (a : ArenaView). RestOnAccepted s.accepted a u) (sym at_root.arena) (rests-cases s.accepted s.held n assumptions v t.0 u state.consistent.arena searched.consistent.arena (state.begins.covers t.0 t.1) (searched.covers u at).stand searched.leaves (searched.told t.0 u t.1 at) (state.rests t.0 t.1));
   all_told = all-told-searched s.accepted s.held n assumptions v s.told after tells searched.told state.all_told;
   root_of = subst (λ (r : Option ClauseId). IsRootOf after m.arena r) (sym root_is) (subst (λ (a : ArenaView). IsRootOf after a (root_of_verdict v)) (sym at_root.arena) (root-searched s.held n assumptions v s.told after tells searched.told searched.covers));
+  units_of = subst (AreUnitsOf after m.arena root) (sym units_is) (subst (λ (r : Option ClauseId). AreUnitsOf after m.arena r (units_of_verdict v)) (sym root_is) (subst (λ (a : ArenaView). AreUnitsOf after a (root_of_verdict v) (units_of_verdict v)) (sym at_root.arena) (units-searched s.held n assumptions limit v s.told after tells searched.verdict searched.ids searched.told)));
 }
 
 -- the held clauses after it

@@ -1,19 +1,22 @@
 -- The originals that a tracer was told.
-use Rattle.std.proofs.Common.{◌≡◌, inl, inr, ℕ, ◌<◌, ◌≤◌, Bool, true, false, cond, not, ◌&&◌, eqb, List, [], ◌∷◌, ◌++◌, Contains, Option, Some, None, refl, sym, ap, subst, ◌∙◌, arith, eqb-true}
+use Rattle.std.proofs.Common.{◌≡◌, ◌≢◌, inl, inr, ℕ, ◌<◌, ◌≤◌, Bool, true, false, cond, not, ◌&&◌, eqb, List, [], ◌∷◌, ◌++◌, Contains, Option, Some, None, refl, sym, ap, subst, ◌∙◌, arith, eqb-true, ne_eqb}
 use Rattle.std.specs.Option.{ForSome, option_map}
-use Rattle.std.proofs.lemmas.Bool.{and_parts}
+use Rattle.std.proofs.lemmas.Bool.{and_parts, eqb-false}
 use Rattle.std.proofs.lemmas.List.Elements.{All-contains, Contains-append_left, Contains-push, Contains-push_cases}
 use Rattle.craig_spec.specs.Literal.{Clause}
 use Rattle.craig_spec.specs.Chain.{SameLiterals, Told, ToldStep, IsUnforgotten, forgotten_at, with_step, without_id}
 use Rattle.craig_spec.specs.Needed.{IsOriginal}
 use Rattle.craig_spec.proofs.MemberLemmas.{Contains-from_image, Contains-image, list_any-find}
 use Rattle.craig_base.specs.Clauses.{IsNormal, IsTautology}
+use Rattle.craig_base.specs.declared.clause_id.ClauseId.{ClauseId}
 use Rattle.craig_base.specs.declared.script_part.Part.{Part}
 use Rattle.craig_proof.specs.Covers.{Covers}
 use Rattle.craig_proof.specs.Tracer.{Appends, original_step}
 use Rattle.craig_search.specs.Tells.{IsStillTold}
 use Rattle.craig_proof.proofs.AppendsLemmas.{before_step}
-use Rattle.craig_solver.specs.Told.{AreAccepted, AreAllTold, IsAcceptedStep, IsClauseTold}
+use Rattle.craig_proof.proofs.PartLemmas.{IsUnforgotten-step, unforgotten_step}
+use Rattle.craig_solver.specs.State.{AreOriginals, IsLastUnit}
+use Rattle.craig_solver.specs.Told.{AreAccepted, AreAllAccepted, AreAllTold, IsAcceptedStep, IsClauseTold}
 
 -- with one more accepted clause, each step is one as before
 pub IsAcceptedStep-more : (xs : List (Part × Clause)) (p : Part × Clause) (s : ToldStep) → IsAcceptedStep xs s → IsAcceptedStep (xs ++ p ∷ []) s
@@ -35,10 +38,13 @@ IsAcceptedStep-same xs r s origin literals is = record {
   normal = subst IsNormal (sym literals) is.normal;
 }
 
-pub AreAccepted-more : (xs : List (Part × Clause)) (p : Part × Clause) (told : Option Told) → ForSome told (AreAccepted xs) → ForSome told (AreAccepted (xs ++ p ∷ []))
-AreAccepted-more xs p told all t is s here original = IsAcceptedStep-more xs p s (all t is s here original)
+pub AreOriginals-more : (xs : List (Part × Clause)) (p : Part × Clause) (root : Option ClauseId) (units : ℕ) (told : Option Told) → ForSome told (AreOriginals xs root units) → ForSome told (AreOriginals (xs ++ p ∷ []) root units)
+AreOriginals-more xs p root units told all t is s here original = elim (all t is s here original) [
+  | inl accepted ↦ inl (IsAcceptedStep-more xs p s accepted)
+  | inr assumed ↦ inr assumed
+]
 
-told-original : (xs : List (Part × Clause)) (part : Part) (written literals : Clause) (id : ℕ) → SameLiterals written literals → IsNormal literals → IsAcceptedStep (xs ++ (part, written) ∷ []) (original_step id part.0 literals)
+pub told-original : (xs : List (Part × Clause)) (part : Part) (written literals : Clause) (id : ℕ) → SameLiterals written literals → IsNormal literals → IsAcceptedStep (xs ++ (part, written) ∷ []) (original_step id part.0 literals)
 told-original xs part written literals id same normal = record {
   pair = (part, written);
   is_accepted = Contains-push xs (part, written);
@@ -48,39 +54,79 @@ told-original xs part written literals id same normal = record {
 }
 
 -- after an original was told
-pub AreAccepted-original : (xs : List (Part × Clause)) (part : Part) (written literals : Clause) (id : ℕ) (before after : Option Told) → ForSome before (AreAccepted xs) → Appends before after (original_step id part.0 literals) → SameLiterals written literals → IsNormal literals → ForSome after (AreAccepted (xs ++ (part, written) ∷ []))
-AreAccepted-original xs part written literals id before after all appends same normal u is s here original =
+pub AreOriginals-original : (xs : List (Part × Clause)) (part : Part) (written literals : Clause) (id : ℕ) (root : Option ClauseId) (units : ℕ) (before after : Option Told) → ForSome before (AreOriginals xs root units) → Appends before after (original_step id part.0 literals) → SameLiterals written literals → IsNormal literals → ForSome after (AreOriginals (xs ++ (part, written) ∷ []) root units)
+AreOriginals-original xs part written literals id root units before after all appends same normal u is s here original =
     let was = before_step before after (original_step id part.0 literals) u appends is in
     let steps : u.steps ≡ was.0.steps ++ original_step id part.0 literals ∷ [] = ap (λ (t : Told). t.steps) was.2 in
     elim (Contains-push_cases was.0.steps (original_step id part.0 literals) s (subst (λ (rs : List ToldStep). Contains rs s) steps here)) [
-      | inl old ↦ IsAcceptedStep-more xs (part, written) s (all was.0 was.1 s old original)
-      | inr last ↦ subst (IsAcceptedStep (xs ++ (part, written) ∷ [])) last (told-original xs part written literals id same normal)
+      | inl old ↦ elim (all was.0 was.1 s old original) [
+        | inl accepted ↦ inl (IsAcceptedStep-more xs (part, written) s accepted)
+        | inr assumed ↦ inr assumed
+      ]
+      | inr last ↦ inl (subst (IsAcceptedStep (xs ++ (part, written) ∷ [])) last (told-original xs part written literals id same normal))
     ]
+
+-- every step was told before the next id
+pub told-below : (t : Told) (f : ℕ → Option Clause) (given : ℕ) (s : ToldStep) → Covers t f given → Contains t.steps s → s.id < given
+told-below t f given s covers here =
+    let g = All-contains (λ (r : ToldStep). (n : ℕ) × (t.greatest ≡ Some n) × (r.id ≤ n)) t.steps s covers.stand.greatest here in
+    let low : g.0 < given = covers.next g.0 g.1 in
+    omega (arith, low, g.2)
 
 -- what isn't forgotten was told before the next id
 pub unforgotten-below : (t : Told) (f : ℕ → Option Clause) (given id : ℕ) → Covers t f given → IsUnforgotten t.steps id → id < given
 unforgotten-below t f given id covers kept =
     let m = list_any-find (λ (r : ToldStep). eqb r.id id && not r.forgotten) t.steps kept in
     let same : m.0.id ≡ id = eqb-true m.0.id id (and_parts _ _ m.2).0 in
-    let g = All-contains (λ (s : ToldStep). (n : ℕ) × (t.greatest ≡ Some n) × (s.id ≤ n)) t.steps m.0 covers.stand.greatest m.1 in
-    let low : g.0 < given = covers.next g.0 g.1 in
-    omega (arith, low, g.2, same)
+    subst (λ (n : ℕ). n < given) same (told-below t f given m.0 covers m.1)
 
 forgotten-cases : (b : Bool) (s : ToldStep) → ((cond b (record { id = s.id; literals = s.literals; origin = s.origin; forgotten = true }) s).origin ≡ s.origin) × ((cond b (record { id = s.id; literals = s.literals; origin = s.origin; forgotten = true }) s).literals ≡ s.literals)
 forgotten-cases true s = (refl, refl)
 forgotten-cases false s = (refl, refl)
 
--- after an id is forgotten
-pub AreAccepted-forgotten : (xs : List (Part × Clause)) (id : ℕ) (before after : Option Told) → ForSome before (AreAccepted xs) → after ≡ option_map (without_id id) before → ForSome after (AreAccepted xs)
-AreAccepted-forgotten xs id None after all is u at = absurd (let no : None ≡ Some u = sym is ∙ at in cc)
-AreAccepted-forgotten xs id (Some t) after all is u at = λ s here original.
-    let same : Some u ≡ Some (without_id id t) = sym at ∙ is in
-    let told : u ≡ without_id id t = cc in
-    let m = Contains-from_image (forgotten_at id) t.steps s (subst (λ (v : Told). Contains v.steps s) told here) in
+stays-cases : (b : Bool) (id : ℕ) (s : ToldStep) → eqb s.id id ≡ b → ((cond b (record { id = s.id; literals = s.literals; origin = s.origin; forgotten = true }) s).id ≡ s.id) × ((cond b (record { id = s.id; literals = s.literals; origin = s.origin; forgotten = true }) s).forgotten ≡ false → (s.forgotten ≡ false) × (s.id ≢ id))
+stays-cases true id s is = (refl, λ no. absurd (let odd : true ≡ false = no in cc))
+stays-cases false id s is = (refl, λ stays. (stays, eqb-false s.id id is))
+
+-- the step that it was before an id was forgotten
+pub forgotten-step : (t : Told) (id : ℕ) (s : ToldStep) → Contains (without_id id t).steps s → (m : ToldStep) × Contains t.steps m × (s.id ≡ m.id) × (s.literals ≡ m.literals) × (s.origin ≡ m.origin) × (s.forgotten ≡ false → (m.forgotten ≡ false) × (m.id ≢ id))
+forgotten-step t id s here =
+    let m = Contains-from_image (forgotten_at id) t.steps s here in
     let kept = forgotten-cases (eqb m.0.id id) m.0 in
-    let origin : s.origin ≡ m.0.origin = ap (λ (r : ToldStep). r.origin) m.2 ∙ kept.0 in
-    let literals : s.literals ≡ m.0.literals = ap (λ (r : ToldStep). r.literals) m.2 ∙ kept.1 in
-    IsAcceptedStep-same xs m.0 s origin literals (all t refl m.0 m.1 (subst IsOriginal origin original))
+    let stays = stays-cases (eqb m.0.id id) id m.0 refl in
+    (m.0, m.1, ap (λ (r : ToldStep). r.id) m.2 ∙ stays.0, ap (λ (r : ToldStep). r.literals) m.2 ∙ kept.1, ap (λ (r : ToldStep). r.origin) m.2 ∙ kept.0, λ not. stays.1 (sym (ap (λ (r : ToldStep). r.forgotten) m.2) ∙ not))
+
+-- what isn't forgotten stays so when another id is
+pub IsUnforgotten-other : (t : Told) (id x : ℕ) → x ≢ id → IsUnforgotten t.steps x → IsUnforgotten (without_id id t).steps x
+IsUnforgotten-other t id x other kept =
+    let m = unforgotten_step t.steps x kept in
+    let stays : forgotten_at id m.0 ≡ m.0 = ap (λ (b : Bool). cond b (record { id = m.0.id; literals = m.0.literals; origin = m.0.origin; forgotten = true }) m.0) (ne_eqb m.0.id id (λ e. other (sym m.2 ∙ e))) in
+    let here : Contains (without_id id t).steps m.0 = subst (Contains (without_id id t).steps) stays (Contains-image (forgotten_at id) t.steps m.0 m.1) in
+    subst (IsUnforgotten (without_id id t).steps) m.2 (IsUnforgotten-step (without_id id t).steps m.0 here m.3)
+
+-- after a unit is forgotten, or the root when no unit is left
+pub AreOriginals-forgotten : (xs : List (Part × Clause)) (id : ℕ) (old_root root : Option ClauseId) (old_units units : ℕ) (t : Told) → ((x : ℕ) → x ≢ id → IsLastUnit old_root old_units x → IsLastUnit root units x) → AreOriginals xs old_root old_units t → AreOriginals xs root units (without_id id t)
+AreOriginals-forgotten xs id old_root root old_units units t fewer all s here original =
+    let m = forgotten-step t id s here in
+    elim (all m.0 m.1 (subst IsOriginal m.4 original)) [
+      | inl accepted ↦ inl (IsAcceptedStep-same xs m.0 s m.4 m.3 accepted)
+      | inr assumed ↦ inr (record {
+        unit = (assumed.unit.0, m.3 ∙ assumed.unit.1);
+        last = λ stays.
+            let was = m.5 stays in
+            subst (IsLastUnit root units) (sym m.2) (fewer m.0.id was.1 (assumed.last was.0));
+      })
+    ]
+
+-- what the contract says of the originals
+pub AreAccepted-originals : (xs : List (Part × Clause)) (root : Option ClauseId) (units : ℕ) (t : Told) → AreOriginals xs root units t → AreAccepted xs t
+AreAccepted-originals xs root units t all s here original = elim (all s here original) [ inl accepted ↦ inl accepted | inr assumed ↦ inr assumed.unit ]
+
+pub AreAllAccepted-originals : (xs : List (Part × Clause)) (units : ℕ) (t : Told) → AreOriginals xs None units t → AreAllAccepted xs t
+AreAllAccepted-originals xs units t all s here original stays = elim (all s here original) [
+  | inl accepted ↦ accepted
+  | inr assumed ↦ absurd (let unit = assumed.last stays in let no : None ≡ Some unit.0 = unit.1 in cc)
+]
 
 -- one more accepted clause that is told, or is a tautology
 IsClauseTold-pushed : (t : Told) (s : ToldStep) (p : Part × Clause) → IsClauseTold t p → IsClauseTold (with_step t s) p

@@ -9,6 +9,7 @@ use Rattle.craig_watch.specs.declared.value.Value.TheVariants.{True, False, Free
 use Rattle.craig_watch.specs.Held.{HeldView, IsConsistent}
 use Rattle.craig_watch.specs.Trail.{Trail, entry_of, value_under}
 use Rattle.craig_solver.specs.Settling.{AreValuesOf}
+use Rattle.craig_spec.proofs.LiteralLemmas.{signs}
 
 -- whether the value is true
 abbrev pub is_true : Value → Bool
@@ -24,10 +25,6 @@ beside-cases false = refl
 positive-value : (t : Trail) (l : Literal) (e : TrailEntry) → entry_of t l.var ≡ Some e → e.literal ≡ l → is_true (value_under t (record { var = l.var; negated = false })) ≡ not l.negated
 positive-value t l e found same =
     rw found (beside-cases e.literal.negated ∙ ap (λ (m : Literal). not m.negated) same)
-
-signed-cases : (b r : Bool) → r ≡ not b → cond b (not r) r ≡ true
-signed-cases true r is = ap not is
-signed-cases false r is = is
 
 -- a list of values makes a variable true where its value is
 abbrev pub ValuesAssign : Type 0
@@ -52,5 +49,5 @@ AreValuesOf-read assign stands places h values ok many set = record {
   literals = λ l is.
       let e = stands h.trail l is in
       let low = known-entry places h ok l.var e.0 e.1 in
-      signed-cases l.negated (variable_value (assignment_of_values values) l.var) (assign values l.var ∙ set l.var low ∙ positive-value h.trail l e.0 e.1 e.2);
+      signs l.negated (variable_value (assignment_of_values values) l.var) (assign values l.var ∙ set l.var low ∙ positive-value h.trail l e.0 e.1 e.2);
 }

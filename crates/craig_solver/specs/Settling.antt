@@ -55,3 +55,9 @@ abbrev pub root_of_verdict : Verdict → Option ClauseId
 root_of_verdict verdict.Model = None
 root_of_verdict (verdict.Failed root places) = Some root
 root_of_verdict (verdict.Limit lemmas) = None
+
+-- how many units were told for a verdict
+abbrev pub units_of_verdict : Verdict → ℕ
+units_of_verdict verdict.Model = 0
+units_of_verdict (verdict.Failed root places) = length places
+units_of_verdict (verdict.Limit lemmas) = 0

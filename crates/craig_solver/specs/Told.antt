@@ -1,7 +1,7 @@
 -- What a solver tells a tracer that tells its meaning.
-use Rattle.std.specs.Prelude.{◌≡◌, ◌⊎◌, ℕ, false, List, [], Option, Some, Contains}
+use Rattle.std.specs.Prelude.{◌≡◌, ◌⊎◌, ℕ, false, List, [], ◌∷◌, Option, Some, Contains}
 use Rattle.std.specs.Option.{ForSome}
-use Rattle.craig_spec.specs.Literal.{Clause}
+use Rattle.craig_spec.specs.Literal.{Clause, Literal}
 use Rattle.craig_spec.specs.Chain.{ChainStep, Original, Derived, SameLiterals, Told, ToldStep, IsTold, IsUnforgotten, clause_told}
 use Rattle.craig_spec.specs.Needed.{IsNeeded, IsOriginal}
 use Rattle.craig_base.specs.Clauses.{IsNormal, IsTautology}
@@ -25,9 +25,17 @@ pub record IsAcceptedStep (accepted : List (Part × Clause)) (s : ToldStep) : Ty
   -- and without repeats
   pub normal : IsNormal s.literals
 
--- each original is an accepted clause
+-- the step has one literal, as the unit of an assumption
+abbrev pub IsUnit : ToldStep → Type 0
+IsUnit s = (l : Literal) × (s.literals ≡ l ∷ [])
+
+-- each original is an accepted clause or the unit of an assumption
 abbrev pub AreAccepted : List (Part × Clause) → Told → Type 0
-AreAccepted accepted t = (s : ToldStep) → Contains t.steps s → IsOriginal s.origin → IsAcceptedStep accepted s
+AreAccepted accepted t = (s : ToldStep) → Contains t.steps s → IsOriginal s.origin → IsAcceptedStep accepted s ⊎ IsUnit s
+
+-- each original that isn't forgotten is an accepted clause
+abbrev pub AreAllAccepted : List (Part × Clause) → Told → Type 0
+AreAllAccepted accepted t = (s : ToldStep) → Contains t.steps s → IsOriginal s.origin → s.forgotten ≡ false → IsAcceptedStep accepted s
 
 -- the accepted clause is told as an original of its part, its literals in any order
 abbrev pub IsClauseTold : Told → Part × Clause → Type 0
@@ -41,7 +49,7 @@ AreAllTold accepted t = (p : Part × Clause) → Contains accepted p → ¬ IsTa
 pub record IsToldOf (accepted : List (Part × Clause)) (t : Told) : Type 0 where
   -- the steps stand on one another
   pub stand : IsTold t
-  -- each original is an accepted clause
+  -- each original is an accepted clause or the unit of an assumption
   pub originals : AreAccepted accepted t
   -- and each accepted clause that is no tautology is an original
   pub all_told : AreAllTold accepted t

@@ -1,4 +1,6 @@
 //! The answer of a solver.
+#![tactic(none)]
+
 use craig_base::{ClauseId, Values};
 use craig_search::{Journal, Places};
 

@@ -1,18 +1,14 @@
 //! What is done after a search before the solver answers.
-ghost use Rattle.std.specs.Prelude.{◌≡◌, ℕ, ◌<◌, true, Some, None, All, IfOk, OnOk, is_some, length};
-ghost use Rattle.std.specs.Option.{ForSome, option_map};
-ghost use Rattle.craig_spec.specs.Chain.{IsUnforgotten, without_id};
-ghost use Rattle.craig_base.specs.declared.clause_id.ClauseId.{ClauseId};
+ghost use Rattle.std.specs.Prelude.{◌≡◌, ℕ, ◌<◌, true, All, IfOk, OnOk, length};
 ghost use Rattle.craig_watch.specs.Trail.{IsAssigned, part_up_to};
 ghost use Rattle.craig_watch.specs.Held.{IsConsistent};
 ghost use Rattle.craig_order.specs.Order.{is_given_back};
 ghost use Rattle.craig_search.specs.Leaves.{IsReady, IsAtRest};
-ghost use Rattle.craig_solver.specs.Settling.{AreValuesOf, AssignsAll, IsAnswerFor, IsAtRoot, root_of_verdict};
+ghost use Rattle.craig_solver.specs.Settling.{AreValuesOf, AssignsAll, IsAnswerFor, IsAtRoot, root_of_verdict, units_of_verdict};
 
 use crate::Answer;
 use craig_base::{ClauseId, Lit, Values, Var};
 use craig_order::Order;
-use craig_proof::Tracer;
 use craig_search::Verdict;
 use craig_watch::{Held, Value};
 use std::alloc::{AllocError, Global};
@@ -100,15 +96,12 @@ pub(crate) fn root_of(verdict: &Verdict) -> Option<ClauseId>
     }
 }
 
-/// Tells a tracer that the root, if there is one, is done with.
-pub(crate) fn forget_told<T: Tracer>(tracer: &mut T, root: Option<ClauseId>)
-    requires { (id : ClauseId) → root ≡ Some id → ForSome (T.told tracer.old) (λ t. IsUnforgotten t.steps id.0) }
-    ensures none { root ≡ None → T.told tracer.new ≡ T.told tracer.old }
-    ensures told { (id : ClauseId) → root ≡ Some id → T.told tracer.new ≡ option_map (without_id id.0) (T.told tracer.old) }
-    ensures tells { is_some (T.told tracer.new) ≡ is_some (T.told tracer.old) }
-    ensures kept { T.kept tracer.new ≡ T.kept tracer.old }
+/// How many units were told for the verdict, with the ids directly below its root.
+pub(crate) fn units_of(verdict: &Verdict) -> u64
+    ensures { result ≡ units_of_verdict verdict.now }
 {
-    if let Some(root) = root {
-        tracer.forget(root);
+    match verdict {
+        Verdict::Failed { places, .. } => places.as_slice().len() as u64,
+        _ => 0,
     }
 }

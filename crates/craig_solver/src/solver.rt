@@ -5,7 +5,7 @@ ghost use Rattle.std.specs.Option.{ForSome};
 ghost use Rattle.craig_spec.specs.Chain.{nothing_told};
 ghost use Rattle.craig_solver.specs.Answer.{accepted_clauses};
 ghost use Rattle.craig_solver.specs.Solver.{IsAdded, IsSolved, StandFor};
-ghost use Rattle.craig_solver.specs.Told.{IsRootTold, IsToldOf};
+ghost use Rattle.craig_solver.specs.Told.{AreAllAccepted, IsRootTold, IsToldOf};
 
 use crate::Answer;
 use crate::state::State;
@@ -100,10 +100,10 @@ impl<T: Tracer> Solver<T> {
     /// Each assumption is a literal of a known variable, in a part. The answer is a model; or assumptions, by their
     /// places, that no assignment makes true together with the accepted clauses; or as many learnt clauses as `limit`
     /// says, which is not 0. A tracer that tells its meaning was then told the empty clause of a refutation, its root,
-    /// which rests on accepted clauses and on the units of these assumptions alone. The root of the answer before is
-    /// forgotten. The accepted clauses stay, and the held ones may change the order of their literals.
+    /// which rests on accepted clauses and on the units of these assumptions alone. The root of the answer before and
+    /// its units are forgotten. The accepted clauses stay, and the held ones may change the order of their literals.
     ///
-    /// No assumption and no limit can be given yet.
+    /// No limit can be given yet.
     pub fn solve(
         &mut self,
         assumptions: &[(Part, Lit)],
@@ -111,7 +111,6 @@ impl<T: Tracer> Solver<T> {
     ) -> Result<Answer, AllocError>
         requires known { All (λ a. a.1.var < self.old.vars) assumptions.now }
         requires limit { limit ≢ Some 0 }
-        requires no_assumption { assumptions.now ≡ [] }
         requires no_limit { limit ≡ None }
         ensures solved { IfOk result (IsSolved self.old self.new (T.told self.new.tracer) assumptions.now limit) }
         ensures accepted { self.new.accepted ≡ self.old.accepted }
@@ -169,62 +168,16 @@ impl<T: Tracer> Solver<T> {
     }
 
     /// The tracer. Where it tells its meaning, the steps that it keeps stand on one another, each original is an
-    /// accepted clause, each accepted clause that is no tautology is an original, and the root of the last answer, if
-    /// that was a refutation, is an empty clause that isn't forgotten.
+    /// accepted clause or the unit of an assumption, each accepted clause that is no tautology is an original, and the
+    /// root of the last answer, if that was a refutation, is an empty clause that isn't forgotten. Where it was none, no
+    /// unit is left that isn't forgotten.
     pub fn tracer(&self) -> &T
         ensures value { result.now ≡ self.now.tracer }
         ensures told { self.now.dead ≡ false → ForSome (T.told self.now.tracer) (IsToldOf self.now.accepted) }
+        ensures units { self.now.dead ≡ false → self.now.root ≡ None → ForSome (T.told self.now.tracer) (AreAllAccepted self.now.accepted) }
         ensures root { IsRootTold (T.told self.now.tracer) self.now.root }
         ensures dead { self.now.dead ≡ true → self.now.root ≡ None }
     {
         &self.state.tracer
-    }
-}
-
-#[cfg(test)]
-mod tests {
-    use super::*;
-    use craig_base::Var;
-    use craig_proof::{ChainStore, Silent};
-    use std::test::Fail;
-
-    #[test]
-    fn a_model_gives_each_variable_its_value(rt: HostRuntime) -> Result<(), Fail> {
-        let v0 = Lit::new(Var(0), false);
-        let v1 = Lit::new(Var(1), false);
-        let mut solver = Solver::new(rt.alloc(), Silent);
-        solver.reach(2)?;
-        solver.add(Part(1), &[v0, v1])?;
-        let Answer::Model(_) = solver.solve(&[], None)? else {
-            panic!(rt; "the clause has a model");
-        };
-        solver.add(Part(2), &[v0.not()])?;
-        let Answer::Model(values) = solver.solve(&[], None)? else {
-            panic!(rt; "the clauses have a model");
-        };
-        assert!(rt; values.get(Var(1)));
-        Ok(())
-    }
-
-    #[test]
-    fn a_refutation_is_replayed(rt: HostRuntime) -> Result<(), Fail> {
-        let v0 = Lit::new(Var(0), false);
-        let v1 = Lit::new(Var(1), false);
-        let mut solver = Solver::new(rt.alloc(), ChainStore::new(rt.alloc()));
-        solver.reach(2)?;
-        solver.add(Part(1), &[v0, v1])?;
-        solver.add(Part(1), &[v0, v1.not()])?;
-        solver.add(Part(2), &[v0.not(), v1])?;
-        solver.add(Part(2), &[v0.not(), v1.not()])?;
-        let Answer::Failed { root, .. } = solver.solve(&[], None)? else {
-            panic!(rt; "no assignment makes all four true");
-        };
-        let mut part = ChainStore::new(rt.alloc());
-        solver.tracer().replay(root, &mut part)?;
-        let Answer::Failed { root: again, .. } = solver.solve(&[], None)? else {
-            panic!(rt; "the clauses are the same");
-        };
-        assert!(rt; root < again);
-        Ok(())
     }
 }

@@ -1,16 +1,16 @@
 //! What a solver keeps.
-ghost use Rattle.std.specs.Prelude.{◌≡◌, ◌≢◌, ℕ, ◌<◌, ◌≤◌, [], ◌∷◌, ◌++◌, Some, None, All, IfOk, OnOk, OnErr, is_some, max};
+ghost use Rattle.std.specs.Prelude.{◌≡◌, ◌≢◌, ℕ, ◌+◌, ◌<◌, ◌≤◌, [], ◌∷◌, ◌++◌, Some, None, All, IfOk, OnOk, OnErr, is_some, max};
 ghost use Rattle.std.specs.Option.{ForSome};
 ghost use Rattle.craig_spec.specs.Chain.{nothing_told};
 ghost use Rattle.craig_base.specs.Clauses.{IsNormal};
 ghost use Rattle.craig_proof.specs.Tracer.{Appends, original_step};
 ghost use Rattle.craig_solver.specs.Solver.{HoldsNext, IsSolved};
-ghost use Rattle.craig_solver.specs.State.{AcceptsClause, ForgetsRoot, IsState, MayAccept, accepting, living_view, state_clauses, state_with};
+ghost use Rattle.craig_solver.specs.State.{AcceptsClause, ForgetsRoot, ForgetsUnits, IsState, MayAccept, accepting, living_view, state_clauses, state_with};
 ghost use Rattle.craig_solver.specs.Told.{TellsNext};
 
 use crate::Answer;
 use crate::copying::copy_of;
-use crate::settling::{answer_for, forget_told, root_of};
+use crate::settling::{answer_for, root_of, units_of};
 use craig_base::{ClauseId, Flags, Lit, Lits, Normal, Part, normal};
 use craig_order::Order;
 use craig_proof::Tracer;
@@ -37,6 +37,8 @@ pub(crate) struct State<T: Tracer> {
     pub(crate) held_ids: Vec<ClauseId>,
     // the empty clause of the last refutation, until the next search
     pub(crate) root: Option<ClauseId>,
+    // how many units were told for it, with the ids directly below its own
+    pub(crate) units: u64,
 }
 
 impl<T: Tracer> State<T> {
@@ -58,6 +60,7 @@ impl<T: Tracer> State<T> {
             tracer,
             held_ids: Vec::new(alloc),
             root: None,
+            units: 0,
         }
     }
 
@@ -134,7 +137,7 @@ impl<T: Tracer> State<T> {
         Ok(())
     }
 
-    /// Searches for a model of the accepted clauses.
+    /// Searches for a model of the accepted clauses and the assumptions.
     pub(crate) fn solve(
         &mut self,
         assumptions: &[(Part, Lit)],
@@ -142,7 +145,6 @@ impl<T: Tracer> State<T> {
     ) -> Result<Answer, AllocError>
         requires known { All (λ a. a.1.var < self.old.held.vars) assumptions.now }
         requires limit { limit ≢ Some 0 }
-        requires no_assumption { assumptions.now ≡ [] }
         requires no_limit { limit ≡ None }
         requires state { IsState (state_with (T.told self.old.tracer) self.old) }
         ensures state { OnOk result (IsState (state_with (T.told self.new.tracer) self.new)) }
@@ -158,10 +160,11 @@ impl<T: Tracer> State<T> {
         let order = &mut self.order;
         let verdict = search(alloc, held, order, &mut self.tracer, assumptions, limit)?;
         self.root = root_of(&verdict);
+        self.units = units_of(&verdict);
         answer_for(alloc, held, order, verdict)
     }
 
-    /// Forgets the root of the last refutation.
+    /// Forgets the root of the last refutation and its units.
     fn forget_root(&mut self)
         requires { IsState (state_with (T.told self.old.tracer) self.old) }
         ensures state { IsState (state_with (T.told self.new.tracer) self.new) }
@@ -169,8 +172,40 @@ impl<T: Tracer> State<T> {
         ensures tells { is_some (T.told self.new.tracer) ≡ is_some (T.told self.old.tracer) }
         ensures kept { T.kept self.new.tracer ≡ T.kept self.old.tracer }
     {
-        let root = self.root;
-        forget_told(&mut self.tracer, root);
-        self.root = None;
+        if let Some(root) = self.root {
+            self.forget_units(root);
+            self.tracer.forget(root);
+            self.root = None;
+        }
+    }
+
+    /// Forgets the units of the last refutation, first to last.
+    fn forget_units(&mut self, root: ClauseId)
+        requires root { self.old.root ≡ Some root }
+        requires state { IsState (state_with (T.told self.old.tracer) self.old) }
+        ensures state { IsState (state_with (T.told self.new.tracer) self.new) }
+        ensures forgets { ForgetsUnits (state_with (T.told self.old.tracer) self.old) (state_with (T.told self.new.tracer) self.new) }
+        ensures units { self.new.units ≡ 0 }
+        ensures tells { is_some (T.told self.new.tracer) ≡ is_some (T.told self.old.tracer) }
+        ensures kept { T.kept self.new.tracer ≡ T.kept self.old.tracer }
+    {
+        while self.units > 0 {
+            self.forget_unit(root);
+        }
+    }
+
+    /// Forgets the first unit of the last refutation.
+    fn forget_unit(&mut self, root: ClauseId)
+        requires some { 0 < self.old.units }
+        requires root { self.old.root ≡ Some root }
+        requires state { IsState (state_with (T.told self.old.tracer) self.old) }
+        ensures state { IsState (state_with (T.told self.new.tracer) self.new) }
+        ensures forgets { ForgetsUnits (state_with (T.told self.old.tracer) self.old) (state_with (T.told self.new.tracer) self.new) }
+        ensures units { self.new.units + 1 ≡ self.old.units }
+        ensures tells { is_some (T.told self.new.tracer) ≡ is_some (T.told self.old.tracer) }
+        ensures kept { T.kept self.new.tracer ≡ T.kept self.old.tracer }
+    {
+        self.tracer.forget(ClauseId(root.0 - self.units));
+        self.units -= 1;
     }
 }

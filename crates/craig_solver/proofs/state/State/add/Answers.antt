@@ -1,4 +1,5 @@
 use Rattle.std.proofs.Common.{ap, refl}
+use Rattle.std.proofs.lemmas.Result.{IfOk-from_err}
 use Rattle.craig_solver.specs.State.{root_number}
 use Rattle.craig_solver.proofs.AcceptedLemmas.{same-pushed}
 use Rattle.craig_solver.proofs.HeldLemmas.{IsState-same}
@@ -15,3 +16,21 @@ returns-clause-added g c = record {
   told = c.in_ok-hold_normal.ensures.told;
   root = ap root_number c.in_ok-hold_normal.ensures.root;
 }
+
+pub returns-in_err-written-clause-state : goal.returns-in_err-written-clause-state
+returns-in_err-written-clause-state g c = IfOk-from_err _ _ c.from_residual.ensures.0
+
+pub returns-in_err-written-clause-added : goal.returns-in_err-written-clause-added
+returns-in_err-written-clause-added g c = IfOk-from_err _ _ c.from_residual.ensures.0
+
+pub returns-in_err-hold_normal-clause-state : goal.returns-in_err-hold_normal-clause-state
+returns-in_err-hold_normal-clause-state g c = IfOk-from_err _ _ c.from_residual-in_err-hold_normal.ensures.0
+
+pub returns-in_err-hold_normal-clause-added : goal.returns-in_err-hold_normal-clause-added
+returns-in_err-hold_normal-clause-added g c = IfOk-from_err _ _ c.from_residual-in_err-hold_normal.ensures.0
+
+pub returns-in_err-push-clause-state : goal.returns-in_err-push-clause-state
+returns-in_err-push-clause-state g c = IfOk-from_err _ _ c.from_residual-in_err-push.ensures.0
+
+pub returns-in_err-push-clause-added : goal.returns-in_err-push-clause-added
+returns-in_err-push-clause-added g c = IfOk-from_err _ _ c.from_residual-in_err-push.ensures.0

@@ -1,4 +1,5 @@
 use Rattle.std.proofs.Common.{◌<◌, false, refl}
+use Rattle.std.proofs.lemmas.Result.{IfOk-from_err}
 use Rattle.craig_spec.specs.Literal.{Literal}
 use Rattle.craig_spec.proofs.ClauseLemmas.{All-same_literals}
 use Rattle.craig_solver.proofs.HeldLemmas.{IsState-original, clauses_under-added}
@@ -16,3 +17,30 @@ returns-clause-held g c =
 
 pub returns-clause-told : goal.returns-clause-told
 returns-clause-told g c = (c.in_ok-id.id.0, c.in_ok-original.ensures.told)
+
+pub returns-in_err-id-clause-state : goal.returns-in_err-id-clause-state
+returns-in_err-id-clause-state g c = IfOk-from_err _ _ c.from_residual.ensures.0
+
+pub returns-in_err-id-clause-held : goal.returns-in_err-id-clause-held
+returns-in_err-id-clause-held g c = IfOk-from_err _ _ c.from_residual.ensures.0
+
+pub returns-in_err-id-clause-told : goal.returns-in_err-id-clause-told
+returns-in_err-id-clause-told g c = IfOk-from_err _ _ c.from_residual.ensures.0
+
+pub returns-in_err-original-clause-state : goal.returns-in_err-original-clause-state
+returns-in_err-original-clause-state g c = IfOk-from_err _ _ c.from_residual-in_err-original.ensures.0
+
+pub returns-in_err-original-clause-held : goal.returns-in_err-original-clause-held
+returns-in_err-original-clause-held g c = IfOk-from_err _ _ c.from_residual-in_err-original.ensures.0
+
+pub returns-in_err-original-clause-told : goal.returns-in_err-original-clause-told
+returns-in_err-original-clause-told g c = IfOk-from_err _ _ c.from_residual-in_err-original.ensures.0
+
+pub returns-in_err-push-clause-state : goal.returns-in_err-push-clause-state
+returns-in_err-push-clause-state g c = IfOk-from_err _ _ c.from_residual-in_err-push.ensures.0
+
+pub returns-in_err-push-clause-held : goal.returns-in_err-push-clause-held
+returns-in_err-push-clause-held g c = IfOk-from_err _ _ c.from_residual-in_err-push.ensures.0
+
+pub returns-in_err-push-clause-told : goal.returns-in_err-push-clause-told
+returns-in_err-push-clause-told g c = IfOk-from_err _ _ c.from_residual-in_err-push.ensures.0

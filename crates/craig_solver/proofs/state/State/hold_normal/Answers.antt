@@ -1,5 +1,5 @@
 use Rattle.std.proofs.Common.{◌<◌, All, refl, subst, sym}
-use Rattle.std.proofs.lemmas.Result.{on_ok_weaker}
+use Rattle.std.proofs.lemmas.Result.{IfOk-from_err, on_ok_weaker}
 use Rattle.craig_spec.specs.Literal.{Literal, Clause}
 use Rattle.craig_spec.specs.Chain.{SameLiterals}
 use Rattle.craig_spec.proofs.ClauseLemmas.{All-same_literals, SameLiterals-sym}
@@ -56,3 +56,12 @@ returns-in-Tautology-clause-told g c = record {
   tautology = λ tautology. refl;
   normal = λ not. absurd (not (c.in_ok-clause.ensures.tautology.0 (subst IsTautologyAnswer (sym c.in-Tautology.is) tt)));
 }
+
+pub returns-in_err-clause-clause-state : goal.returns-in_err-clause-clause-state
+returns-in_err-clause-clause-state g c = IfOk-from_err _ _ c.from_residual.ensures.0
+
+pub returns-in_err-clause-clause-held : goal.returns-in_err-clause-clause-held
+returns-in_err-clause-clause-held g c = IfOk-from_err _ _ c.from_residual.ensures.0
+
+pub returns-in_err-clause-clause-told : goal.returns-in_err-clause-clause-told
+returns-in_err-clause-clause-told g c = IfOk-from_err _ _ c.from_residual.ensures.0

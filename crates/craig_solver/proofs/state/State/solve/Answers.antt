@@ -1,5 +1,5 @@
 use Rattle.std.proofs.Common.{ap, subst}
-use Rattle.std.proofs.lemmas.Result.{on_ok_weaker}
+use Rattle.std.proofs.lemmas.Result.{IfOk-from_err, on_ok_weaker}
 use Rattle.craig_solver.specs.Solver.{AreReordered}
 use Rattle.craig_solver.specs.State.{StateView, clauses_under}
 use Rattle.craig_solver.proofs.AnswerLemmas.{IfOk-both, IsAnswer-searched}
@@ -13,7 +13,7 @@ search-requires-clause-begins g c = c.forget_root.ensures.state.begins
 
 pub returns-clause-state : goal.returns-clause-state
 returns-clause-state g c =
-    on_ok_weaker c.answer_for.result (λ rest. IsState-searched _ c.search.new.held _ _ _ _ _ c.args.assumptions.now c.args.limit c.in_ok-verdict.verdict c.forget_root.ensures.state c.requires.no_assumption c.in_ok-verdict.ensures.searched c.search.ensures.tells c.search.ensures.order c.root_of-self.ensures rest c.answer_for.ensures.order) c.answer_for.ensures.at_root
+    on_ok_weaker c.answer_for.result (λ rest. IsState-searched _ c.search.new.held _ _ _ _ _ _ c.args.assumptions.now c.args.limit c.in_ok-verdict.verdict c.forget_root.ensures.state (ap (λ (s : StateView). s.root) c.forget_root.ensures.forgets.rest) c.in_ok-verdict.ensures.searched c.search.ensures.tells c.search.ensures.order c.root_of-self.ensures c.units_of-self.ensures rest c.answer_for.ensures.order) c.answer_for.ensures.at_root
 
 pub returns-clause-solved : goal.returns-clause-solved
 returns-clause-solved g c =
@@ -27,8 +27,14 @@ returns-clause-solved g c =
     let accepted = ap (λ (s : StateView). s.accepted) same in
     IfOk-both c.answer_for.result (λ a for rest. record {
       answer = IsAnswer-searched mid.accepted.items _ mid.held found _ c.args.assumptions.now c.args.limit verdict a accepted (ap (λ (s : StateView). s.held.vars) same) state.consistent.arena state.clauses searched.leaves searched.verdict for;
-      tells = TellsAnswer-searched mid.accepted.items _ mid.held found c.search.new.order c.args.assumptions.now c.args.limit verdict a (g.T.Tracer.told mid.tracer) _ accepted c.search.ensures.tells searched state.originals for;
+      tells = TellsAnswer-searched mid.accepted.items _ mid.held found c.search.new.order c.args.assumptions.now c.args.limit verdict a (g.T.Tracer.told mid.tracer) _ accepted c.search.ensures.tells state.consistent.arena state.begins.covers searched state.rests for;
       root = root_of-answer found verdict a _ c.root_of-self.ensures for;
-      forgets = root-forgotten _ (g.T.Tracer.told mid.tracer) _ mid.held found c.args.assumptions.now verdict c.requires.state c.forget_root.ensures.forgets.told (ap (λ (s : StateView). s.held) same) c.search.ensures.tells searched.told;
+      forgets = root-forgotten _ (g.T.Tracer.told mid.tracer) _ mid.held found c.args.assumptions.now verdict c.requires.state c.forget_root.ensures.forgets.gone c.forget_root.ensures.tells (ap (λ (s : StateView). s.held) same) c.search.ensures.tells searched.told;
       held = subst (λ (s : StateView). AreReordered (clauses_under s.held.arena s.held_ids) (clauses_under c.answer_for.new.held.arena mid.held_ids.items)) same (AreReordered-ids mid.held found _ _ mid.held_ids.items searched.leaves state.ids rest);
     }) c.answer_for.ensures.answer c.answer_for.ensures.at_root
+
+pub returns-in_err-verdict-clause-state : goal.returns-in_err-verdict-clause-state
+returns-in_err-verdict-clause-state g c = IfOk-from_err _ _ c.from_residual.ensures.0
+
+pub returns-in_err-verdict-clause-solved : goal.returns-in_err-verdict-clause-solved
+returns-in_err-verdict-clause-solved g c = IfOk-from_err _ _ c.from_residual.ensures.0

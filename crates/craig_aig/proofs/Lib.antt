@@ -3,6 +3,7 @@ mod ChoiceLemmas
 mod ConjunctionLemmas
 mod ConstantLemmas
 mod DependenceLemmas
+mod EdgeLemmas
 mod FromFrontLemmas
 mod FunctionLemmas
 pub mod GrowthLemmas

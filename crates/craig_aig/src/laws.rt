@@ -24,18 +24,3 @@ pub fn bits_are_an_assignment()
 pub fn no_input_is_constant()
     ensures { NoInputIsConstant }
 {}
-
-#[cfg(test)]
-mod tests {
-    use super::*;
-    use std::test::Fail;
-
-    #[test]
-    fn the_laws_are_called(_rt: HostRuntime) -> Result<(), Fail> {
-        values_by_cones();
-        nodes_by_operands();
-        bits_are_an_assignment();
-        no_input_is_constant();
-        Ok(())
-    }
-}

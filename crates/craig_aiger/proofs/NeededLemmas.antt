@@ -1,8 +1,9 @@
 -- The pass that keeps the needed nodes.
-use Rattle.std.proofs.Common.{◌≡◌, ◌⊎◌, inl, inr, ℕ, ◌+◌, ◌<◌, ◌≤◌, Bool, true, false, cond, eqb, eqb-true, eq-eqb, List, length, get_or, All, Option, Some, None, slice_get, refl, sym, ap, ◌∙◌, subst, arith}
+use Rattle.std.proofs.Common.{◌≡◌, ◌⊎◌, inl, inr, ℕ, ◌+◌, ◌<◌, ◌≤◌, Bool, true, false, cond, eqb, eqb-true, eq-eqb, List, length, get_or, set, All, Option, Some, None, slice_get, refl, sym, ap, ◌∙◌, subst, arith}
 use native.Mathlib.Decide.{dec_lt}
 use Rattle.std.specs.Option.{is_some}
-use Rattle.std.proofs.lemmas.List.{get_or_past, get_or_default, length-map}
+use Rattle.std.proofs.lemmas.Bool.{eqb-false}
+use Rattle.std.proofs.lemmas.List.{get_or_past, get_or_default, get_or-set_other, get_or-set_same, length-map}
 use Rattle.std.proofs.Math.ListN.{get_or-map}
 use Rattle.craig_aiger.specs.declared.out_name.OutName.{OutName}
 use Rattle.std.proofs.lemmas.Option.{slice_get-get_or, slice_get_within, get_or_from_slice_get}
@@ -15,6 +16,15 @@ use Rattle.craig_aiger.specs.Layouts.{at, node_operands, OperandsBelow, edges_of
 -- the table has one node more
 abbrev pub IsKept : List Node → List (Option Node) → List (Option Node) → ℕ → Type 0
 IsKept nodes old new p = (k : ℕ) → at new k ≡ cond (eqb k p) (slice_get nodes p) (at old k)
+
+set_case : (table : List (Option Node)) (p k : ℕ) (v : Option Node) (t : Bool) → eqb k p ≡ t → p < length table → at (set table p v) k ≡ cond t v (at table k)
+set_case table p k v true e within = ap (at (set table p v)) (eqb-true k p e) ∙ get_or-set_same table p v None within
+set_case table p k v false e within = get_or-set_other table p k v None (eqb-false k p e)
+
+-- where the node is set
+pub kept-set : (nodes : List Node) (old : List (Option Node)) (q p : ℕ) (n : Node) → q ≡ p → slice_get nodes p ≡ Some n → length old ≡ length nodes → p < length nodes → IsKept nodes old (set old q (Some n)) p
+kept-set nodes old q p n place node long within k =
+    rw (place, node) (set_case old p k (Some n) (eqb k p) refl (omega (arith, long, within)))
 
 kept_case : (k p : ℕ) (a b c : Option Node) (t : Bool) → eqb k p ≡ t → a ≡ cond t b c → ((k ≡ p) × (a ≡ b)) ⊎ (a ≡ c)
 kept_case k p a b c true e h = inl (eqb-true k p e, h)

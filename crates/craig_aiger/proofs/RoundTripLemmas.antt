@@ -29,7 +29,7 @@ use Rattle.craig_aiger.proofs.CircuitMovedLemmas.{cone_moved, value_moved}
 use Rattle.craig_aiger.proofs.TextSectionLemmas.{bytes_of, counts, literals_of, operands_of}
 use Rattle.craig_aiger.proofs.TextSymbolLemmas.{input_name, layout_symbols, output_name}
 use Rattle.craig_aiger.proofs.TextWordLemmas.{bytes-lines_of, five_numbers, variable_in-decimal}
-use Rattle.craig_spec.proofs.MemberLemmas.{slice_get-to_map}
+use Rattle.craig_spec.proofs.MemberLemmas.{slice_get-to_map, map-map}
 use Rattle.craig_aiger.proofs.WritableLemmas.{mapped}
 use Rattle.craig_aiger.proofs.TextWrittenLemmas.{Said, said, written_of}
 
@@ -83,10 +83,6 @@ header_read line i o a bytes few few_outputs =
 
 read_through : (end : ℕ) (line : TextLine) (lines : List TextLine) (c : Counts) (w : Written) (f : AigerFile) → header_in line ≡ Ok c → written_in c end lines ≡ Ok w → file_written w ≡ Ok f → read_from end (line ∷ lines) ≡ Ok f
 read_through end line lines c w f header body file = rw (header, body, file) refl
-
-map_map : {X Y Z : Type 0} (f : Y → Z) (g : X → Y) (xs : List X) → map f (map g xs) ≡ map (λ x. f (g x)) xs
-map_map f g [] = refl
-map_map f g (x ∷ xs) = ap (λ l. f (g x) ∷ l) (map_map f g xs)
 
 map_same : {X Y : Type 0} (f g : X → Y) (xs : List X) → Each (λ x. f x ≡ g x) xs → map f xs ≡ map g xs
 map_same f g [] h = refl
@@ -151,14 +147,14 @@ module _ (l : Layout) (h : IsWritable l) where
           (each_then (λ (o : OutName × ℕ). o.1 / 2 < first + length l.gates) (λ (o : OutName × ℕ). moved first order o.1 / 2 < variable_count circuit) l.outputs (λ o b. moved_within first gates order is_order o.1 (omega (arith, b, gate_count))) literals_within));
     };
     inputs_are = refl;
-    names_are = map_map (λ (o : Output). o.name) (to_output (moved first order)) l.outputs;
+    names_are = map-map (λ (o : Output). o.name) (to_output (moved first order)) l.outputs;
     values_are = λ s.
-        map_map (λ (o : Output). circuit_value s circuit o.literal) (to_output (moved first order)) l.outputs
+        map-map (λ (o : Output). circuit_value s circuit o.literal) (to_output (moved first order)) l.outputs
         ∙ map_same (λ (o : OutName × ℕ). circuit_value s circuit (moved first order o.1)) (λ (o : OutName × ℕ). circuit_value s (circuit_of l) o.1) l.outputs
         (each_then (λ (o : OutName × ℕ). o.1 / 2 < first + length l.gates) (λ (o : OutName × ℕ). circuit_value s circuit (moved first order o.1) ≡ circuit_value s (circuit_of l) o.1) l.outputs
         (λ o b. value_moved first gates order in_order is_order (false ∷ map (variable_value s) l.inputs) o.1 (omega (arith, length-map l.inputs (variable_value s))) (omega (arith, b, gate_count))) literals_within);
     cones_are =
-        map_map (λ (o : Output). circuit_cone circuit o.literal) (to_output (moved first order)) l.outputs
+        map-map (λ (o : Output). circuit_cone circuit o.literal) (to_output (moved first order)) l.outputs
         ∙ map_same (λ (o : OutName × ℕ). circuit_cone circuit (moved first order o.1)) (λ (o : OutName × ℕ). circuit_cone (circuit_of l) o.1) l.outputs
         (each_then (λ (o : OutName × ℕ). o.1 / 2 < first + length l.gates) (λ (o : OutName × ℕ). circuit_cone circuit (moved first order o.1) ≡ circuit_cone (circuit_of l) o.1) l.outputs
         (λ o b. cone_moved first gates order in_order is_order ([] ∷ map (λ (x : ℕ). x ∷ []) l.inputs) o.1 (omega (arith, length-map l.inputs (λ (x : ℕ). x ∷ []))) (omega (arith, b, gate_count))) literals_within);

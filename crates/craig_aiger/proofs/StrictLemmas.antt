@@ -1,5 +1,5 @@
 -- The circuit of a layout has nothing twice, and each input and gate is reached from an output.
-use Rattle.std.proofs.Common.{◌≡◌, ◌≢◌, ◌⊎◌, inl, inr, ℕ, suc, ◌+◌, ◌-◌, ◌*◌, ◌<◌, ◌≤◌, ◌/◌, Bool, true, false, ◌&&◌, cond, nat_lt, eqb, List, [], ◌∷◌, ◌++◌, length, get_or, take, drop, map, Some, None, All, AllPairs, slice_get, refl, sym, ap, ◌∙◌, subst, arith}
+use Rattle.std.proofs.Common.{◌≡◌, ◌≢◌, ◌⊎◌, inl, inr, ℕ, suc, ◌+◌, ◌-◌, ◌*◌, ◌<◌, ◌≤◌, ◌/◌, Bool, true, false, ◌&&◌, nat_lt, eqb, List, [], ◌∷◌, ◌++◌, length, get_or, take, drop, map, Some, None, All, AllPairs, slice_get, refl, sym, ap, ◌∙◌, subst, arith}
 use Rattle.std.proofs.lemmas.Option.{same_Some}
 use Rattle.std.proofs.lemmas.Bool.{and_from, and_parts}
 use native.Mathlib.Decide.{dec_lt}
@@ -22,11 +22,12 @@ use Rattle.craig_aiger.specs.Layouts.{Layout, circuit_of, at, edges_of, node_ope
 use Rattle.craig_aiger.specs.OutNames.{name_text}
 use Rattle.craig_aiger.proofs.NamedLemmas.{input_is}
 use Rattle.craig_aiger.proofs.NeededLemmas.{gate_read, operands_at, is_some_at}
-use Rattle.craig_spec.proofs.MemberLemmas.{slice_get-to_map}
+use Rattle.craig_spec.proofs.MemberLemmas.{slice_get-to_map, slice_get-front}
 use Rattle.craig_aiger.proofs.CircuitLemmas.{gate_counts, gates_around, some_node}
 use Rattle.craig_aiger.proofs.FunctionLemmas.{half, kept, output_needed, to_circuit}
 use Rattle.craig_aiger.proofs.UsedLemmas.{Given, given, member_of_map}
 use Rattle.craig_aiger.proofs.WritableLemmas.{From, from, mapped, operands_bound}
+use Rattle.craig_base.proofs.LiteralsLemmas.{same_parts}
 
 -- where no two are the same, equal ones stand at one place
 one_place : {X : Type 0} (xs : List X) (d : X) (i j : ℕ) → AllPairs (λ x y. x ≢ y) xs → i < length xs → j < length xs → get_or xs i d ≡ get_or xs j d → i ≡ j
@@ -50,13 +51,6 @@ same_edge e f p q = ap (λ (n : ℕ). let v : Edge = record { place = n; negated
 
 same_gate : (l r m s : Edge) → l ≡ m → r ≡ s → Gate l r ≡ Gate m s
 same_gate l r m s e f = ap (λ x. Gate x r) e ∙ ap (λ x. Gate m x) f
-
--- equal literals are of one number and sign
-same_literal : (m n : ℕ) (s t : Bool) → 2 * m + cond s 1 0 ≡ 2 * n + cond t 1 0 → (m ≡ n) × (s ≡ t)
-same_literal m n true true e = (omega (arith, e), refl)
-same_literal m n false false e = (omega (arith, e), refl)
-same_literal m n true false e = absurd (omega (arith, e))
-same_literal m n false true e = absurd (omega (arith, e))
 
 -- equal gates have the same two literals
 same_operands : (a b c d : ℕ) (s t : Bool) → nat_lt a b ≡ s → nat_lt c d ≡ t → to_circuit (ordered a b) ≡ to_circuit (ordered c d) → ((a ≡ c) × (b ≡ d)) ⊎ ((a ≡ d) × (b ≡ c))
@@ -82,10 +76,6 @@ ordered_variables a b m n false e p q low high differ = rw e (let less : b ≤ a
 either_order : (P : ℕ → Type 0) (a b : ℕ) (t : Bool) → nat_lt a b ≡ t → P (ordered a b).0 × P (ordered a b).1 → P a × P b
 either_order P a b true e both = let pair : P b × P a = rw e at both in (pair.1, pair.0)
 either_order P a b false e both = rw e at both
-
-slice_get_after : {X : Type 0} (front : List X) (x : X) (back : List X) → slice_get (front ++ x ∷ back) (length front) ≡ Some x
-slice_get_after [] x back = refl
-slice_get_after (y ∷ front) x back = slice_get_after front x back
 
 -- what holds of the literals of the outputs of a circuit holds of those of the layout
 output_has : (P : ℕ → Type 0) (laid : List (OutName × ℕ)) (j : ℕ) (o : OutName × ℕ) → slice_get laid j ≡ Some o → All (λ (x : circuit.Output). P x.literal) (map (λ (x : OutName × ℕ). record { name = name_text x.0; literal = x.1 }) laid) → P o.1
@@ -164,7 +154,7 @@ module _ (nodes : List Node) (names : List ℕ) (outputs : List (OutName × Edge
     -- two needed edges of one literal
     one_edge : (e f : Edge) → is_some (at h.table e.place) ≡ true → is_some (at h.table f.place) ≡ true → 0 < e.place → 0 < f.place → edge_literal h.numbers e ≡ edge_literal h.numbers f → e ≡ f
     one_edge e f some other low high same =
-        let parts = same_literal (get_or h.numbers e.place 0) (get_or h.numbers f.place 0) e.negated f.negated same in
+        let parts = same_parts (get_or h.numbers e.place 0) (get_or h.numbers f.place 0) e.negated f.negated same in
         same_edge e f (same_place e.place f.place some other low high parts.0) parts.1
 
   -- the node of a gate of the layout
@@ -255,7 +245,7 @@ module _ (nodes : List Node) (names : List ℕ) (outputs : List (OutName × Edge
   laid_gate k l r is =
       let front : List (Edge × Edge) = filter_map node_operands (take k h.table) in
       let back : List (Edge × Edge) = filter_map node_operands (drop (suc k) h.table) in
-      let there : slice_get (front ++ (l, r) ∷ back) (length front) ≡ Some (l, r) = slice_get_after front (l, r) back in
+      let there : slice_get (front ++ (l, r) ∷ back) (length front) ≡ Some (l, r) = slice_get-front front (l, r) back in
       let here : slice_get (filter_map node_operands h.table) (length front) ≡ Some (l, r) = ap (λ ps. slice_get ps (length front)) (gates_around h.table k l r (within_table k (Gate l r) is) is) ∙ there in
       let gate_here : slice_get layout.gates (length front) ≡ Some (gate_literals h.numbers (l, r)) = ap (λ gs. slice_get gs (length front)) h.gates_are ∙ slice_get-to_map (gate_literals h.numbers) (filter_map node_operands h.table) (length front) (l, r) here in
       slice_get-to_map to_circuit layout.gates (length front) (gate_literals h.numbers (l, r)) gate_here

@@ -1,9 +1,10 @@
 -- What the nodes of a table give, one after another.
-use Rattle.std.proofs.Common.{◌≡◌, inl, inr, ℕ, zero, suc, ◌+◌, ◌<◌, ◌≤◌, List, [], ◌∷◌, ◌++◌, length, get_or, take, map, Option, Some, None, All, Contains, slice_get, refl, sym, ap, ◌∙◌, subst, arith, length-append}
+use Rattle.std.proofs.Common.{◌≡◌, inl, inr, ℕ, zero, suc, ◌+◌, ◌^◌, ◌<◌, ◌≤◌, true, false, Fits, w64, List, [], ◌∷◌, ◌++◌, length, get_or, take, map, Option, Some, None, All, Contains, slice_get, refl, sym, ap, ◌∙◌, subst, arith, length-append}
 use Rattle.craig_aiger.proofs.NeededLemmas.{before_or_at}
 use Rattle.std.proofs.lemmas.Option.{none-some, same_Some}
 use Rattle.std.proofs.lemmas.List.{append-nil}
 use Rattle.std.specs.List.{filter_map, cons_option}
+use Rattle.std.specs.Option.{is_some}
 use Rattle.std.specs.List.Sorted.{IsStrictlyIncreasing, IsPermutation, IsSorted}
 use Rattle.std.proofs.lemmas.List.{get_or_default, get_or_at, get_or_append_left, take_more, map-append}
 use Rattle.std.proofs.lemmas.List.Elements.{filter_map-append}
@@ -82,17 +83,32 @@ numbered_input names inputs before (Some (Input x)) v m name e at within place =
     let named : get_or names v 0 ≡ name = get_or_from_slice_get names v name 0 at in
     (place.0, place.1, place.2 ∙ ap Some (sym (ap (λ k. get_or names k 0) same ∙ named)), omega (arith, same, within))
 
-pub numbered_gate : (names inputs : List ℕ) (before : List (Option Node)) (n : Option Node) (p : Edge × Edge) (m : ℕ) → node_operands n ≡ Some p → m ≡ 1 + length inputs + length (filter_map node_operands before) → IsNumber names inputs before n m
-numbered_gate names inputs before None p m e is = absurd (none-some p e)
-numbered_gate names inputs before (Some Constant) p m e is = absurd (none-some p e)
-numbered_gate names inputs before (Some (Input x)) p m e is = absurd (none-some p e)
-numbered_gate names inputs before (Some (Gate l r)) p m e is = is
+-- whether a node has operands tells a gate from the others
+pub numbered_some : (names inputs : List ℕ) (before : List (Option Node)) (n : Option Node) (m : ℕ) → is_some (node_operands n) ≡ true → m ≡ 1 + length inputs + length (filter_map node_operands before) →
+    IsNumber names inputs before n m
+numbered_some names inputs before None m e is = cc
+numbered_some names inputs before (Some Constant) m e is = cc
+numbered_some names inputs before (Some (Input x)) m e is = cc
+numbered_some names inputs before (Some (Gate l r)) m e is = is
 
-pub numbered_other : (names inputs : List ℕ) (before : List (Option Node)) (n : Option Node) → node_variable n ≡ None → node_operands n ≡ None → IsNumber names inputs before n 0
-numbered_other names inputs before None e f = tt
-numbered_other names inputs before (Some Constant) e f = refl
-numbered_other names inputs before (Some (Input x)) e f = absurd (none-some x.0 (sym e))
-numbered_other names inputs before (Some (Gate l r)) e f = absurd (none-some (l, r) (sym f))
+pub numbered_none : (names inputs : List ℕ) (before : List (Option Node)) (n : Option Node) → node_variable n ≡ None → is_some (node_operands n) ≡ false → IsNumber names inputs before n 0
+numbered_none names inputs before None e f = tt
+numbered_none names inputs before (Some Constant) e f = refl
+numbered_none names inputs before (Some (Input x)) e f = absurd (none-some x.0 (sym e))
+numbered_none names inputs before (Some (Gate l r)) e f = cc
+
+-- numbers are small
+pub next-small : (i n : ℕ) → i < n → n < 2 ^ 41 → 1 + i < 2 ^ 42
+next-small i n low few = omega arith
+
+pub next-fits : (i n : ℕ) → i < n → n < 2 ^ 41 → Fits w64 (1 + i)
+next-fits i n low few = omega arith
+
+pub larger-small : (n : ℕ) → n < 2 ^ 42 → n < 2 ^ 43
+larger-small n low = omega arith
+
+pub none-small : 0 < 2 ^ 42
+none-small = omega arith
 
 -- the first nodes of the table have their numbers
 pub record Numbered (names inputs : List ℕ) (table : List (Option Node)) (numbers : List ℕ) (i : ℕ) : Type 0 where

@@ -1,4 +1,6 @@
 //! The interpolation systems whose circuits stand side by side in one text.
+#![tactic(none)]
+
 /// An interpolation system whose circuits stand beside those of others in one text.
 #[derive(Clone, Copy, Debug, PartialEq, Eq, PartialOrd, Ord, Hash)]
 pub enum Family {

@@ -1,4 +1,6 @@
 //! The forms of a text.
+#![tactic(none)]
+
 /// A form in which a layout is written.
 #[derive(Clone, Copy, Debug, PartialEq, Eq, Hash)]
 pub enum Form {

@@ -8,6 +8,7 @@ use craig_aig::{Aig, Edge, Node};
 use std::alloc::{AllocError, Global};
 
 /// Keeps the node of the edge.
+#[tactic(none)]
 fn keep(table: &mut [Option<Node>], aig: &Aig, edge: Edge)
     requires lengths { length table.old ≡ length aig.now }
     requires within { edge.place < length aig.now }

@@ -13,6 +13,7 @@ use craig_base::Names;
 use std::alloc::{AllocError, Global};
 
 /// The number of a node, where so many variables are the constant, the inputs and the gates before.
+#[tactic(none)]
 fn number_of(node: &Option<Node>, names: &Names, inputs: &[u32], taken: u64) -> u64
     requires rising { IsStrictlyIncreasing inputs.now }
     requires few { length inputs.now < 2 ^ 41 }

@@ -28,19 +28,3 @@ impl fmt::Display for OutName {
         }
     }
 }
-
-#[cfg(test)]
-mod tests {
-    use super::*;
-    use std::test::Fail;
-
-    #[test]
-    fn a_name_prints_as_its_cut_after_its_letter(rt: HostRuntime) -> Result<(), Fail> {
-        let name = OutName {
-            family: Some(Family::Pudlak),
-            cut: 12,
-        };
-        assert_eq!(rt; format!(in rt.alloc(); "{name}")?.as_str(), "p12");
-        Ok(())
-    }
-}

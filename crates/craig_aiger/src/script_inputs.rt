@@ -55,6 +55,7 @@ pub(crate) fn input_names(
 }
 
 /// The number of the input that has the name, counted from 1.
+#[tactic(none)]
 pub(crate) fn input_number(inputs: &[u32], name: u32) -> u64
     requires rising { IsStrictlyIncreasing inputs.now }
     requires there { Contains inputs.now name }

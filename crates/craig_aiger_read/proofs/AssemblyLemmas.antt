@@ -17,10 +17,6 @@ use Rattle.craig_aiger_read.specs.ReadViews.{as_latch, as_root}
 pub ok-same : {A : Type 0} (x y : A) → ◌≡◌ {A = Result A Fault} (Ok x) (Ok y) → x ≡ y
 ok-same x y e = cc
 
-pub map-map : {A B C : Type 0} (g : B → C) (f : A → B) (xs : List A) → map g (map f xs) ≡ map (λ x. g (f x)) xs
-map-map g f [] = refl
-map-map g f (x ∷ xs) = ap (λ z. g (f x) ∷ z) (map-map g f xs)
-
 -- the first line that uses what is undefined is the fault
 abbrev pub UndefinedAt : List ℕ → List Use → Fault → Type 0
 UndefinedAt variables uses f = (u : Use) × (find (uses_other variables) uses ≡ Some u) × (f ≡ record { kind = FaultKind.Undefined; offset = u.offset })

@@ -1,9 +1,11 @@
 -- Laws of errors that are passed on.
-use Rattle.std.proofs.Common.{◌≡◌, ℕ, Option, Some, None, Result, Err}
+use Rattle.std.proofs.Common.{◌≡◌, ℕ, Option, Some, None, Result, Ok, Err}
+use Rattle.std.specs.declared.alloc.AllocError.{AllocError}
 use Rattle.std.specs.Prelude.{IfErr, IfOk}
+use Rattle.std.specs.Result.{IsErrAnd}
 use Rattle.craig_spec.specs.AigerFault.{Fault, FaultKind}
 use Rattle.craig_spec.specs.AigerReading.{fault}
-use Rattle.craig_aiger_read.specs.declared.aiger_error.AigerError.TheVariants.{Truncated}
+use Rattle.craig_aiger_read.specs.declared.aiger_error.AigerError.TheVariants.{NoMemory, Truncated}
 use Rattle.craig_aiger_read.specs.ReadFaults.{FailsBy, IsFaultOf, IsReadAs, fault_of}
 use Rattle.craig_aiger_read.specs.declared.aiger_error.AigerError.{AigerError}
 
@@ -33,3 +35,8 @@ IfErr-passed P r y e is same h = rw (is, same) h
 -- a clause that speaks of a value alone
 pub IfOk-passed : {X : Type 0} (P : X → Type 0) (r : Result X AigerError) (y : AigerError) → r ≡ Err y → IfOk r P
 IfOk-passed P r y is = rw is tt
+
+-- want of memory says nothing of what is read
+pub memory_error : {X Y : Type 0} (view : X → Y) (r : Result X AigerError) (s : Result Y Fault) (a : AllocError) → IsErrAnd r (λ e. e ≡ NoMemory a) → IsReadAs view r s
+memory_error view (Ok x) s a h = absurd h
+memory_error view (Err e) s a h = rw h tt

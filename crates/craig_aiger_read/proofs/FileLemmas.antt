@@ -1,5 +1,5 @@
 -- Laws of the file that is written so.
-use Rattle.std.proofs.Common.{◌≡◌, ℕ, ◌+◌, ◌-◌, ◌/◌, ◌<◌, List, [], ◌∷◌, ◌++◌, suc, length, map, get_or, All, Option, Some, None, Result, Ok, Err, refl, sym, ◌∙◌, ap, subst, arith}
+use Rattle.std.proofs.Common.{◌≡◌, ℕ, ◌+◌, ◌-◌, ◌/◌, ◌<◌, ◌≤◌, List, [], ◌∷◌, ◌++◌, suc, length, map, get_or, All, Option, Some, None, Result, Ok, Err, refl, sym, ◌∙◌, ap, subst, arith}
 use Rattle.std.proofs.lemmas.List.{get_or-map, length-append, length-map}
 use Rattle.std.proofs.lemmas.List.FromFn.{length-map-range_with_len}
 use Rattle.std.specs.Prelude.{find}
@@ -23,7 +23,8 @@ use Rattle.craig_aiger_read.specs.ReadNumbers.{numbered_gate}
 use Rattle.craig_aiger_read.specs.ReadOrder.{AreNewVariables, gate_moved_by, moved_by}
 use Rattle.craig_aiger_read.specs.ReadViews.{as_gate, as_latch, as_operands, as_root}
 use Rattle.craig_aiger_read.specs.ReadWritten.{KeepsWritten}
-use Rattle.craig_aiger_read.proofs.AssemblyLemmas.{latches-named, lines-ok, map-map, moved_by-is, none-four, roots-named, undefined-four}
+use Rattle.craig_spec.proofs.MemberLemmas.{map-map}
+use Rattle.craig_aiger_read.proofs.AssemblyLemmas.{latches-named, lines-ok, moved_by-is, none-four, roots-named, undefined-four}
 
 written-undefined : (w : Written) (offset : ℕ) → first_undefined w ≡ Some offset → file_written w ≡ fault FaultKind.Undefined offset
 unfolding file_written
@@ -201,6 +202,18 @@ pub gate-count : (w : Written) (kept : kept_written.Written) (n : Numbered) → 
 gate-count w kept n h is =
     let made = (lines-ok kept.variables.keys (λ (g : kept_gate.GateLine). gate_use (as_gate g)) (numbered_gate kept.variables.keys) kept.gates.items (map as_operands n.gates.items) is.gates).1 in
     omega (arith, ap length made, length-map n.gates.items as_operands, length-map kept.gates.items (numbered_gate kept.variables.keys))
+
+-- as they are counted and borrowed
+pub lines-fewer : (n : ℕ) (lines : List kept_gate.GateLine) (w : Written) (kept : kept_written.Written) → n ≡ length kept.variables.keys → lines ≡ kept.gates.items → KeepsWritten w kept → length lines ≤ n
+lines-fewer n lines w kept long same h = omega (arith, long, ap length same, variable-count w kept h)
+
+pub first_gate-counted : (n : ℕ) (lines : List kept_gate.GateLine) (w : Written) (kept : kept_written.Written) → n ≡ length kept.variables.keys → lines ≡ kept.gates.items → KeepsWritten w kept →
+    n - length lines ≡ first_gate w
+first_gate-counted n lines w kept long same h = omega (arith, long, ap length same, variable-count w kept h)
+
+pub gates-few : (first most : ℕ) (gates : List Gate) (w : Written) (kept : kept_written.Written) (m : Numbered) → first ≡ first_gate w → length kept.variables.keys ≤ most → gates ≡ m.gates.items →
+    KeepsWritten w kept → IsNumbered kept m → first + length gates ≤ most
+gates-few first most gates w kept m at few same h is = omega (arith, at, few, ap length same, variable-count w kept h, gate-count w kept m h is)
 
 pub gates-within : (w : Written) (kept : kept_written.Written) (n : Numbered) (first : ℕ) → KeepsWritten w kept → IsNumbered kept n → first ≡ first_gate w → AreWithin first n.gates.items
 gates-within w kept n first h is at = λ j d low.

@@ -12,6 +12,6 @@ mod CircleLemmas
 mod OrderLemmas
 mod MovingLemmas
 mod NamingLemmas
-mod AssemblyLemmas
+pub mod AssemblyLemmas
 mod FileLemmas
 mod ReadingLemmas

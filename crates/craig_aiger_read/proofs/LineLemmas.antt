@@ -1,5 +1,5 @@
 -- Laws of the lines of a text.
-use Rattle.std.proofs.Common.{◌≡◌, ℕ, ◌+◌, ◌-◌, ◌<◌, Some, None, Option, List, [], ◌∷◌, length, take, refl, ◌∙◌, ap, arith, length-drop, Bor}
+use Rattle.std.proofs.Common.{◌≡◌, ℕ, ◌+◌, ◌-◌, ◌<◌, false, eqb, Some, None, Option, List, [], ◌∷◌, length, take, refl, ◌∙◌, ap, arith, length-drop, Bor}
 use Rattle.std.specs.List.{position_or_len, slice_split, before_first}
 use Rattle.std.specs.Option.{unwrap_or, option_copied}
 use Rattle.std.proofs.lemmas.List.{take_all, length-take-le}
@@ -66,3 +66,8 @@ pub first_line-borrowed : (bytes line : List ℕ) (found : Option (Bor (List ℕ
 first_line-borrowed bytes line found behind none some front found_is none_is rest =
     first_line bytes line behind.now some front
     (ap (λ (z : Bor (List ℕ)). z.now) rest ∙ unwrap_or-copied found none ∙ ap (λ z. unwrap_or z none.now) found_is ∙ ap (unwrap_or (behind_first 10 bytes)) none_is)
+
+-- bytes that aren't empty
+pub some_byte : (bytes : List ℕ) → eqb (length bytes) 0 ≡ false → 0 < length bytes
+some_byte [] e = absurd cc
+some_byte (b ∷ bs) e = omega arith

@@ -1,10 +1,10 @@
 -- Laws of the new variables of gates.
-use Rattle.std.proofs.Common.{◌≡◌, ℕ, suc, ◌+◌, ◌<◌, ◌≤◌, true, eqb, List, ◌∷◌, length, drop, set, get_or, replicate, inl, inr, ◌∙◌, ap, arith, ne_eqb}
+use Rattle.std.proofs.Common.{◌≡◌, ℕ, suc, ◌+◌, ◌-◌, ◌*◌, ◌/◌, ◌%◌, ◌<◌, ◌≤◌, true, false, eqb, ltb, Fits, w64, refl, List, ◌∷◌, length, drop, set, get_or, replicate, inl, inr, ◌∙◌, ap, arith, ne_eqb}
 use Rattle.craig_aiger_read.proofs.SettleLemmas.{same-place}
 use Rattle.std.proofs.lemmas.Bool.Decides.{nat_tests}
 use Rattle.std.proofs.lemmas.List.{drop_all, drop_more, get_or-replicate, get_or-set_other, get_or-set_same, length-replicate, length-set}
 use Rattle.craig_spec.specs.AigerReading.{place_in}
-use Rattle.craig_aiger_read.specs.ReadOrder.{AreNewVariables, AreSmall}
+use Rattle.craig_aiger_read.specs.ReadOrder.{AreNewVariables, AreSmall, moved_by}
 use Rattle.craig_aiger_read.proofs.CutLemmas.{position_or_len-go, position_or_len-le, position_or_len-stop}
 
 -- the variables of the places in the order from one on
@@ -54,3 +54,20 @@ places-all first order variables i h none = λ j inside. h.are j inside ∙ ap (
 -- and they are small
 pub places-small : (first : ℕ) (order variables : List ℕ) → AreNewVariables first order variables → first + length order ≤ 1000000000000000001 → AreSmall variables
 places-small first order variables h few = λ j inside. omega (arith, h j inside, position_or_len-le (eqb j) order, few)
+
+-- where the new variable of a gate stands, and how small it is
+pub gate-place : (first n l : ℕ) → first ≤ l / 2 → l / 2 < first + n → l / 2 - first < n
+gate-place first n l above within = omega arith
+
+pub double-fits : (variables : List ℕ) (j : ℕ) → AreSmall variables → j < length variables → Fits w64 (2 * get_or variables j 0)
+double-fits variables j small inside = omega (arith, small j inside)
+
+pub moved-fits : (variables : List ℕ) (j l : ℕ) → AreSmall variables → j < length variables → Fits w64 (2 * get_or variables j 0 + l % 2)
+moved-fits variables j l small inside = omega (arith, small j inside)
+
+-- literals that are moved and others
+pub moved_by-leaf : (first : ℕ) (variables : List ℕ) (l : ℕ) → l / 2 < first → l ≡ moved_by first variables l
+moved_by-leaf first variables l low = let t : ltb (l / 2) first ≡ true = grind (arith, nat_tests, low) in rw t refl
+
+pub moved_by-gate : (first : ℕ) (variables : List ℕ) (l : ℕ) → first ≤ l / 2 → 2 * get_or variables (l / 2 - first) 0 + l % 2 ≡ moved_by first variables l
+moved_by-gate first variables l high = let t : ltb (l / 2) first ≡ false = grind (arith, nat_tests, high) in rw t refl

@@ -1,10 +1,11 @@
 -- Laws of the numbers that words write.
-use Rattle.std.proofs.Common.{◌≡◌, ℕ, ◌+◌, ◌^◌, ◌<◌, ◌≤◌, Bool, true, false, leb, List, [], ◌∷◌, ◌++◌, length, map, Option, Some, None, refl, sym, ◌∙◌, ap, arith}
+use Rattle.std.proofs.Common.{◌≡◌, ℕ, ◌+◌, ◌^◌, ◌<◌, ◌≤◌, Bool, true, false, leb, List, [], ◌∷◌, ◌++◌, length, map, get_or, Option, Some, None, Result, Ok, refl, sym, ◌∙◌, ap, arith}
 use Rattle.std.proofs.Math.Nat.{pow-le-pow_right}
 use Rattle.std.proofs.lemmas.List.{append_assoc, append-nil, length-append}
 use Rattle.std.proofs.lemmas.Bool.Decides.{nat_tests}
 use Rattle.std.specs.Option.{option_map}
-use Rattle.craig_spec.specs.AigerReading.{all_read, number_in, numbers_in, words_of}
+use Rattle.craig_spec.specs.AigerFault.{Fault, FaultKind}
+use Rattle.craig_spec.specs.AigerReading.{Counts, all_read, checked, fault, is_literal, number_in, numbers_in, root_of, words_of}
 
 -- few digits make a small number
 pub pow-small : (i n : ℕ) → i ≤ n → 10 ^ i ≤ 10 ^ n
@@ -64,3 +65,21 @@ pub so_far-wrong : (line ns word : List ℕ) (left : List (List ℕ)) → Number
 so_far-wrong line ns word left h e =
     let none : all_read (map number_in (words_of line)) ≡ None = sym h.read ∙ ap (option_map (λ read. ns ++ read)) (all_read-none (number_in word) (map number_in left) e) in
     sym (wrong-by line (leb (length (words_of line)) 9) refl none)
+
+-- an output or bad literal has one number
+pub root_of-one : (c : Counts) (offset : ℕ) (o : Option (List ℕ)) (ns : List ℕ) → o ≡ Some ns → 1 ≤ length ns → length ns < 2 →
+    root_of c offset o ≡ checked (is_literal c (get_or ns 0 0)) FaultKind.Literal offset (Ok (record { offset = offset; literal = get_or ns 0 0 }))
+root_of-one c offset o [] is some few = absurd (omega arith)
+root_of-one c offset o (n ∷ []) is some few = rw is refl
+root_of-one c offset o (n ∷ (m ∷ ns)) is some few = absurd (omega arith)
+
+pub root_of-none : (c : Counts) (offset : ℕ) (o : Option (List ℕ)) (ns : List ℕ) → o ≡ Some ns → length ns < 1 → root_of c offset o ≡ fault FaultKind.Line offset
+root_of-none c offset o [] is few = rw is refl
+root_of-none c offset o (n ∷ ns) is few = absurd (omega arith)
+
+-- what is tested
+pub checked-fails : {A : Type 0} (t : Bool) (kind : FaultKind) (offset : ℕ) (read : Result A Fault) → t ≡ false → checked t kind offset read ≡ fault kind offset
+checked-fails t kind offset read e = rw e refl
+
+pub checked-holds : {A : Type 0} (t : Bool) (kind : FaultKind) (offset : ℕ) (read : Result A Fault) → t ≡ true → checked t kind offset read ≡ read
+checked-holds t kind offset read e = rw e refl

@@ -1,8 +1,8 @@
 -- Laws of the order by depth.
-use Rattle.std.proofs.Common.{◌≡◌, ℕ, zero, suc, ◌+◌, ◌<◌, ◌≤◌, Bool, true, false, not, ◌&&◌, eqb, List, [], ◌∷◌, ◌++◌, length, map, get_or, All, Option, Some, None, Result, Ok, Err, ⊎_elim, refl, sym, ◌∙◌, ap, arith}
+use Rattle.std.proofs.Common.{◌≡◌, ℕ, zero, suc, ◌+◌, ◌<◌, ◌≤◌, Bool, true, false, not, ◌&&◌, eqb, List, [], ◌∷◌, ◌++◌, length, map, take, get_or, All, Option, Some, None, Result, Ok, Err, ⊎_elim, refl, sym, ◌∙◌, ap, arith}
 use Rattle.std.proofs.lemmas.Bool.{cases_lt}
 use Rattle.std.proofs.lemmas.Bool.Decides.{nat_tests}
-use Rattle.std.proofs.lemmas.List.{get_or-map, get_or_default, length-map, map-append}
+use Rattle.std.proofs.lemmas.List.{get_or-map, get_or_default, length-map, map-append, map_push, take_more}
 use Rattle.std.proofs.lemmas.List.FromFn.{get_or-map-range_with_len, length-map-range_with_len, map-range_with_len_more}
 use Rattle.std.proofs.lemmas.List.Sorted.{All-permutation, length_permutation}
 use Rattle.std.specs.Prelude.{filter, IfOk, IsPermutation}
@@ -182,3 +182,7 @@ order-by-function f n depths is =
     ∙ groups-range-same (λ k j. is_depth k (get_or depths j None)) (λ k j. is_depth k (f j)) (range_with_len 0 n) (range_with_len 1 n)
     (λ k. filter-range-same (λ j. is_depth k (get_or depths j None)) (λ j. is_depth k (f j)) 0 n
     (λ j low high. ap (is_depth k) (ap (λ z. get_or z j None) is ∙ get_or-map-range_with_len f 0 n j j None (omega arith) (omega arith))))
+
+-- one more of the first
+pub map_take-next : {X Y : Type 0} (f : X → Y) (xs : List X) (i : ℕ) (d : X) (ys : List Y) → ys ≡ map f (take i xs) → i < length xs → ys ++ f (get_or xs i d) ∷ [] ≡ map f (take (i + 1) xs)
+map_take-next f xs i d ys e h = ap (λ z. z ++ f (get_or xs i d) ∷ []) e ∙ sym (map_push f (take i xs) (get_or xs i d)) ∙ ap (map f) (sym (take_more xs i d h))

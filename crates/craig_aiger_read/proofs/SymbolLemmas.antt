@@ -15,6 +15,7 @@ use Rattle.craig_aiger_read.specs.ReadNames.{is_free, symbol_count}
 use Rattle.craig_aiger_read.specs.Cuts.{behind_first}
 use Rattle.craig_aiger_read.proofs.CutLemmas.{list_any-inside}
 use Rattle.craig_aiger_read.proofs.FaultLemmas.{FailsBy-through}
+use Rattle.std.proofs.lemmas.Bool.{not-true}
 
 -- nothing is found exactly where no element passes
 none-by : {X : Type 0} (p : X → Bool) (x : X) (xs : List X) (t : Bool) → p x ≡ t → is_none (find p xs) ≡ not (list_any p xs) → is_none (cond t (Some x) (find p xs)) ≡ not (t || list_any p xs)
@@ -100,10 +101,6 @@ symbol_in-free c symbols line s names found is =
 pub names_of-other : (symbols : List Symbol) (s : Symbol) (letter count : ℕ) → ((i : ℕ) → is_symbol_of letter i s ≡ false) → names_of (symbols ++ s ∷ []) letter count ≡ names_of symbols letter count
 names_of-other symbols s letter count other =
     range-same (name_of (symbols ++ s ∷ []) letter) (name_of symbols letter) 0 count (λ i low. ap (option_map (λ (x : Symbol). x.name)) (find-other (is_symbol_of letter i) symbols s (other i)))
-
-not-true : (b : Bool) → not b ≡ true → b ≡ false
-not-true true e = cc
-not-true false e = refl
 
 -- and the thing has the name
 pub names_of-set : (symbols : List Symbol) (s : Symbol) (count : ℕ) (names : List (Option (List ℕ))) → names ≡ names_of symbols s.letter count → is_free names s.position ≡ true →

@@ -1,4 +1,6 @@
 //! Why a text is not read.
+#![tactic(none)]
+
 ghost use Rattle.std.specs.Prelude.{◌≡◌, alloc_error};
 ghost use Rattle.craig_aiger_read.specs.declared.aiger_error.AigerError.TheVariants.{NoMemory};
 
@@ -53,6 +55,7 @@ pub enum AigerError {
 impl From<AllocError> for AigerError {
     ghost from_gives = { λ error e. e ≡ NoMemory error };
 
+    #[tactic(auto)]
     fn from(error: AllocError) -> AigerError {
         AigerError::NoMemory(error)
     }
@@ -61,6 +64,7 @@ impl From<AllocError> for AigerError {
 impl<T: Drop> From<AllocFailed<T>> for AigerError {
     ghost from_gives = { λ _ e. e ≡ NoMemory alloc_error };
 
+    #[tactic(auto)]
     fn from(_error: AllocFailed<T>) -> AigerError {
         AigerError::NoMemory(AllocError)
     }

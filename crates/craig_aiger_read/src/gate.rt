@@ -1,4 +1,6 @@
 //! A gate of a circuit.
+#![tactic(none)]
+
 /// The conjunction of two literals of a circuit.
 ///
 /// Literal 0 is false and literal 1 is true. Literal 2v is variable v, and 2v + 1 its negation, where the

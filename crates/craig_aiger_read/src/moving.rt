@@ -28,6 +28,7 @@ pub(crate) fn new_variables(
 }
 
 /// The literal with the new variable, where its variable is that of a gate.
+#[tactic(none)]
 pub(crate) fn moved(first: u64, variables: &[u64], literal: u64) -> u64
     requires within { literal / 2 < first + length variables.now }
     requires small { AreSmall variables.now }

@@ -51,6 +51,7 @@ fn sort_by_depth(ranked: &mut Vec<Ranked>) -> Result<(), AllocError>
 }
 
 /// The gates without their depths.
+#[tactic(none)]
 fn gates_of(alloc: Global, ranked: &[Ranked]) -> Result<Vec<usize>, AllocError>
     ensures { IfOk result (λ v. v.items ≡ map (λ r. r.gate) ranked.now) }
 {

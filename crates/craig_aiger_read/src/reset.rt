@@ -1,4 +1,6 @@
 //! How latches start.
+#![tactic(none)]
+
 /// How a latch starts.
 #[derive(Clone, Copy, Debug, PartialEq, Eq)]
 pub enum Reset {

@@ -6,6 +6,7 @@ use crate::AigerError;
 use crate::cut::cut_at;
 
 /// The first line, without its newline, and what is behind it.
+#[tactic(none)]
 pub(crate) fn next_line(text: &[u8]) -> Option<(&[u8], &[u8])>
     ensures none { IfNone result (text.now ≡ []) }
     ensures some { IfSome result (λ cut. IsFirstLine text.now cut.0.now cut.1.now) }

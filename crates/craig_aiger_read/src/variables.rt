@@ -46,6 +46,7 @@ pub(crate) fn number_literal(variables: &IndexSet<u64>, literal: u64) -> Option<
 }
 
 /// The next literals of the latches, with the numbers of their variables.
+#[tactic(none)]
 pub(crate) fn number_latches(
     alloc: Global,
     variables: &IndexSet<u64>,
@@ -68,6 +69,7 @@ pub(crate) fn number_latches(
 }
 
 /// The literals of outputs or bad literals, with the numbers of their variables.
+#[tactic(none)]
 pub(crate) fn number_roots(
     alloc: Global,
     variables: &IndexSet<u64>,
@@ -88,6 +90,7 @@ pub(crate) fn number_roots(
 }
 
 /// The gates, with the numbers of the variables of their operands.
+#[tactic(none)]
 pub(crate) fn number_gates(
     alloc: Global,
     variables: &IndexSet<u64>,
@@ -108,6 +111,7 @@ pub(crate) fn number_gates(
 }
 
 /// The operands of a gate, with the numbers of their variables.
+#[tactic(none)]
 fn number_gate(variables: &IndexSet<u64>, gate: &GateLine) -> Option<Gate>
     requires { length variables.now.keys ≤ 1000000000000000001 }
     ensures gate { option_map as_operands result ≡ gate_if_known variables.now.keys gate.now }

@@ -16,7 +16,7 @@ use Rattle.craig_itp.specs.StepEdges.{IsEdgeReached, IsChainEdge}
 use Rattle.craig_itp.specs.declared.step_edge.StepEdge.{StepEdge}
 
 -- one step more
-chain_value-push : (label : ℕ → Label) (s : Assignment) (value : ℕ → Bool) (left : Bool) (rest : List ChainStep) (step : ChainStep) → chain_value label s value left (rest ++ step ∷ []) ≡ join_value (label step.pivot.var) (literal_value s step.pivot) (chain_value label s value left rest) (value step.antecedent)
+pub chain_value-push : (label : ℕ → Label) (s : Assignment) (value : ℕ → Bool) (left : Bool) (rest : List ChainStep) (step : ChainStep) → chain_value label s value left (rest ++ step ∷ []) ≡ join_value (label step.pivot.var) (literal_value s step.pivot) (chain_value label s value left rest) (value step.antecedent)
 chain_value-push label s value left [] step = refl
 chain_value-push label s value left (r ∷ rest) step =
     chain_value-push label s value (join_value (label r.pivot.var) (literal_value s r.pivot) left (value r.antecedent)) rest step

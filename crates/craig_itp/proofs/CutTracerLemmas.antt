@@ -39,7 +39,7 @@ AreEdges-nothing l nodes arena = record {
 }
 
 -- an edge of an arena that grows
-IsEdgeOf-grown : (l : Labelling) (steps : List ToldStep) (nodes new : List Node) (id : ℕ) (e : Edge) → Extends nodes new → KeepsEdges nodes new → IsEdgeOf l steps nodes id e → IsEdgeOf l steps new id e
+pub IsEdgeOf-grown : (l : Labelling) (steps : List ToldStep) (nodes new : List Node) (id : ℕ) (e : Edge) → Extends nodes new → KeepsEdges nodes new → IsEdgeOf l steps nodes id e → IsEdgeOf l steps new id e
 IsEdgeOf-grown l steps nodes new id e grown kept h =
     let inside : e.place < length new = omega (arith, length-Extends nodes new grown, h.within) in
     let keeps = kept e h.within inside in

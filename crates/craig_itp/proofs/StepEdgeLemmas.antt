@@ -2,24 +2,15 @@
 use Rattle.std.proofs.Common.{◌≡◌, ◌≢◌, ℕ, ◌<◌, ◌≤◌, Bool, true, false, List, Some, None, eqb, eq-eqb, length, get_or, AllPairs, Contains, ltb, ap, ◌∙◌, arith}
 use Rattle.std.specs.Bool.{then_some}
 use Rattle.std.specs.List.Sorted.{IsPartitionedBy, IsPartitionPoint}
-use Rattle.std.proofs.lemmas.Bool.Decides.{nat_tests}
 use Rattle.std.proofs.lemmas.List.{get_or_default}
 use Rattle.craig_aig.specs.Edges.{Edge}
+use Rattle.craig_proof.proofs.StoredLemmas.{not_above, not_below, partitioned_at}
 use Rattle.craig_itp.specs.declared.step_edge.StepEdge.{StepEdge}
 
 -- the test of the search holds of a front of the edges
-partitioned_at : (x y id i j : ℕ) → i ≤ j → ltb y id ≡ true → (i < j → x < y) → (i ≡ j → x ≡ y) → ltb x id ≡ true
-partitioned_at x y id i j le h rises same = grind (arith, nat_tests)
-
 pub IsPartitionedBy-ids : (xs : List StepEdge) (id : ℕ) → AllPairs (λ r s. r.id.0 < s.id.0) xs → IsPartitionedBy (λ s. ltb s.id.0 id) xs
 IsPartitionedBy-ids xs id rising i j d le within h =
     partitioned_at (get_or xs i d).id.0 (get_or xs j d).id.0 id i j le h (λ before. rising i j d before within) (λ same. ap (λ k. (get_or xs k d).id.0) same)
-
-not_below : (x id : ℕ) → ltb x id ≡ true → x ≡ id → ⊥
-not_below x id h e = grind (arith, nat_tests)
-
-not_above : (x id : ℕ) → ltb x id ≡ false → x < id → ⊥
-not_above x id h lt = grind (arith, nat_tests)
 
 -- and the place where it ends is that of the id
 place_found : (xs : List StepEdge) (id r : ℕ) → AllPairs (λ r s. r.id.0 < s.id.0) xs → IsPartitionPoint (λ s. ltb s.id.0 id ≡ true) (λ s. ltb s.id.0 id ≡ false) xs r → (k : ℕ) (d : StepEdge) → k < length xs → (get_or xs k d).id.0 ≡ id → r ≡ k

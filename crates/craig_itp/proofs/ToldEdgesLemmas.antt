@@ -73,12 +73,12 @@ HasEdge-unforgotten edges steps id ids h = let p = unforgotten_at steps id h in 
 pub first_has_edge : (edges : List StepEdge) (steps : List ToldStep) (first : ℕ) (rest : List Step) → edge_ids edges ≡ step_ids steps → All (IsUnforgotten steps) (antecedents (Derived first (chain_of rest))) → HasEdge edges first
 first_has_edge edges steps first rest ids h = HasEdge-unforgotten edges steps first ids (h 0 0 (omega arith))
 
-antecedent_at : (rest : List Step) (k : ℕ) (d : Step) → k < length rest → get_or (map (λ s. s.antecedent) (chain_of rest)) k 0 ≡ (get_or rest k d).antecedent.0
+pub antecedent_at : (rest : List Step) (k : ℕ) (d : Step) → k < length rest → get_or (map (λ s. s.antecedent) (chain_of rest)) k 0 ≡ (get_or rest k d).antecedent.0
 antecedent_at [] k d within = absurd (omega arith)
 antecedent_at (s ∷ rest) zero d within = refl
 antecedent_at (s ∷ rest) (suc k) d within = antecedent_at rest k d (omega arith)
 
-length-antecedents : (rest : List Step) → length (map (λ s. s.antecedent) (chain_of rest)) ≡ length rest
+pub length-antecedents : (rest : List Step) → length (map (λ s. s.antecedent) (chain_of rest)) ≡ length rest
 length-antecedents [] = refl
 length-antecedents (s ∷ rest) = ap suc (length-antecedents rest)
 

@@ -60,7 +60,7 @@ module _ (low high : Labelling) (s : Assignment) where
 
       origin-implied : (q : ToldStep) (o : Origin) → q.origin ≡ o → Contains steps q → StandsOn steps q.literals o → ((r : ToldStep) → Contains steps r → Contains (antecedents q.origin) r.id → StepImplied r) → AddedHold low high steps q.id s → Implied q.literals (origin_value low s f q.literals o) (origin_value high s g q.literals o)
       origin-implied q (Original part) is here stands earlier added = λ crossing.
-          leaf-implied low high s q.literals crossing (low.on_side_a part) (high.on_side_a part) (below.parts part) (λ b a. added q part here (IsNeeded-root steps q.id) is b a)
+          leaf-implied low high s q.literals crossing (low.is_leaf_of_a part) (high.is_leaf_of_a part) (below.leaves part) (λ b a. added q part here (IsNeeded-root steps q.id) is b a)
       origin-implied q (Derived first rest) is here stands earlier added =
           let ids : List ℕ = map (λ q. q.antecedent) rest in
           let same : antecedents q.origin ≡ first ∷ ids = ap antecedents is in

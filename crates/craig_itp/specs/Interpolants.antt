@@ -15,7 +15,7 @@ use Rattle.craig_aig.specs.declared.node.Node.{Node}
 use Rattle.craig_system.specs.Rules.{labelling}
 use Rattle.craig_itp.specs.CutTracer.{Setting}
 
--- the variable was noted in the part, or in parts before and after it
+-- the variable was noted in the part, or in parts before and after it; a common one was noted in part 0
 abbrev pub Spans : SidesView → ℕ → ℕ → Type 0
 Spans sides x part = (r : Range) × (range_of sides x ≡ Some r) × (r.first ≤ part) × (part ≤ r.last)
 
@@ -31,9 +31,9 @@ AreNoted sides steps = (step : ToldStep) → Contains steps step → IsNotedStep
 abbrev pub NeededAreNoted : SidesView → List ToldStep → ℕ → Type 0
 NeededAreNoted sides steps root = (step : ToldStep) → Contains steps step → IsNeeded steps root step.id → IsNotedStep sides step
 
--- the originals that the root needs are of parts from 1 to the last one
+-- the originals that the root needs are of parts up to the last one
 abbrev pub NeededHaveParts : ℕ → List ToldStep → ℕ → Type 0
-NeededHaveParts parts steps root = (step : ToldStep) (part : ℕ) → Contains steps step → IsNeeded steps root step.id → step.origin ≡ Original part → (1 ≤ part) × (part ≤ parts)
+NeededHaveParts parts steps root = (step : ToldStep) (part : ℕ) → Contains steps step → IsNeeded steps root step.id → step.origin ≡ Original part → part ≤ parts
 
 -- the edge has the value of the partial interpolant of the clause under the id
 abbrev pub HasPartialValue : SidesView → ℕ → (ℕ → Label) → List ToldStep → ℕ → List Node → Edge → Type 0
@@ -56,17 +56,18 @@ pub record IsInterpolant (sides : SidesView) (cut : ℕ) (marks : ℕ → Label)
   -- each variable that it reaches is shared
   pub inputs : HasSharedInputs sides cut nodes e
 
--- the same at the cut of a tracer and by its labels
-abbrev pub IsInterpolantAt : Setting → List ToldStep → ℕ → List Node → Edge → Type 0
-IsInterpolantAt at steps root nodes e = IsInterpolant at.sides at.cut at.marks steps root nodes e
+-- the edge of the arena is the refutation's output at the cut: constant at the outer cuts, and the interpolant elsewhere
+pub record IsOutput (sides : SidesView) (cut : ℕ) (marks : ℕ → Label) (steps : List ToldStep) (root : ℕ) (nodes : List Node) (e : Edge) : Type 0 where
+  -- that of cut 0 is the constant true
+  pub first : cut ≡ 0 → e ≡ constant_edge true
+  -- that of the cut behind all parts is the constant false
+  pub last : cut ≡ sides.parts → e ≡ constant_edge false
+  -- each other one is the interpolant at its cut
+  pub inner : 1 ≤ cut → cut < sides.parts → IsInterpolant sides cut marks steps root nodes e
 
--- there is an interpolant for each cut, from 0 to the number of parts, all of the one refutation
-pub record AreInterpolants (sides : SidesView) (marks : ℕ → Label) (steps : List ToldStep) (root : ℕ) (nodes : List Node) (edges : List Edge) : Type 0 where
+-- there is an output for each of the cuts, in order, all of the one refutation
+pub record AreInterpolants (sides : SidesView) (marks : ℕ → Label) (steps : List ToldStep) (root : ℕ) (nodes : List Node) (cuts : List ℕ) (edges : List Edge) : Type 0 where
   -- one for each cut
-  pub count : length edges ≡ sides.parts + 1
-  -- each is the interpolant at its cut
-  pub each : (cut : ℕ) (e : Edge) → slice_get edges cut ≡ Some e → IsInterpolant sides cut marks steps root nodes e
-  -- that of cut 0 is the constant true, where the originals have parts
-  pub first : NeededHaveParts sides.parts steps root → slice_get edges 0 ≡ Some (constant_edge true)
-  -- and that of the last cut the constant false
-  pub last : NeededHaveParts sides.parts steps root → slice_get edges sides.parts ≡ Some (constant_edge false)
+  pub count : length edges ≡ length cuts
+  -- each is the output at the cut of its place
+  pub each : (place cut : ℕ) (e : Edge) → slice_get cuts place ≡ Some cut → slice_get edges place ≡ Some e → IsOutput sides cut marks steps root nodes e

@@ -3,3 +3,4 @@ pub mod Interpolants
 pub mod Labellings
 pub mod PartialValues
 pub mod StepEdges
+pub mod Walk

@@ -2,14 +2,16 @@
 --
 -- After D'Silva, Kroening, Purandare and Weissenbacher, VMCAI 2010, for two labellings of one refutation, and Rollini,
 -- Sery and Sharygina, CAV 2012, for its cuts.
-use Rattle.std.specs.Prelude.{◌≡◌, ◌≢◌, ◌≤◌, ℕ, Bool, true, false, List, [], Some, Contains, IsTrue, nat_le}
+use Rattle.std.specs.Prelude.{◌≡◌, ◌≢◌, ◌<◌, ◌≤◌, ℕ, Bool, true, false, List, [], Some, Contains, IsTrue, nat_le}
 use Rattle.craig_spec.specs.Truth.{Assignment}
 use Rattle.craig_spec.specs.Chain.{ToldStep, Told, IsTold, clause_told, with_step, without_id}
 use Rattle.craig_spec.specs.Needed.{IsNeeded, IsNeededPart, Reclaims}
-use Rattle.craig_spec.specs.PartialInterpolant.{Label, Labelling, IsBelow, rank, origin_value, partial_values}
+use Rattle.craig_spec.specs.Cut.{is_between, is_on_side_a, is_on_side_b}
+use Rattle.craig_spec.specs.PartialInterpolant.{Label, Labelling, IsBelow, highest_labelling, lowest_labelling, rank, origin_value, partial_interpolant, partial_values}
 use Rattle.craig_label.specs.Sides.{SidesView}
 use Rattle.craig_system.specs.Rules.{labelling}
-use Rattle.craig_itp.specs.Labellings.{AddedHold, AreStepsOf, CrossingAreFalse, IsNotedRefutation, MeetsRules, PartsHold, ValueImplies, cut_value}
+use Rattle.craig_itp.specs.Interpolants.{NeededHaveParts}
+use Rattle.craig_itp.specs.Labellings.{AddedHold, AreStepsOf, CrossingAreFalse, IsEmptyRoot, MeetsRules, PartsHold, ValueImplies, cut_value, output_value}
 
 -- the values are those that the rules give, step by step
 pub record PartialValuesByRules : Type 0 where
@@ -39,18 +41,36 @@ pub record LabellingsImply : Type 0 where
   -- the empty clause has no literal
   pub empty : (low high : Labelling) → IsBelow low high → (t : Told) → IsTold t → (root : ℕ) → clause_told t.steps root ≡ Some [] → (s : Assignment) → AddedHold low high t.steps root s → ValueImplies low high t.steps root s
 
--- the interpolants of one refutation at its cuts
+-- the values of the outermost labellings are constant
+pub record OutermostAreConstant : Type 0 where
+  -- where all is labelled B and no clause is a leaf of side A, each clause has the value true
+  pub lowest : (t : Told) → IsTold t → (step : ToldStep) → Contains t.steps step → (s : Assignment) → partial_interpolant lowest_labelling t.steps step.id s ≡ true
+  -- where all is labelled A and each clause is a leaf of side A, false
+  pub highest : (t : Told) → IsTold t → (step : ToldStep) → Contains t.steps step → (s : Assignment) → partial_interpolant highest_labelling t.steps step.id s ≡ false
+
+-- the partial interpolants of one refutation at its cuts
 pub record CutsFollow : Type 0 where
-  -- at cut 0 it is true
-  pub first : (sides : SidesView) (marks : ℕ → Label) (t : Told) (root : ℕ) → IsNotedRefutation sides t root → (s : Assignment) → cut_value sides marks t.steps root 0 s ≡ true
-  -- at the last cut it is false
-  pub last : (sides : SidesView) (marks : ℕ → Label) (t : Told) (root : ℕ) → IsNotedRefutation sides t root → (s : Assignment) → cut_value sides marks t.steps root sides.parts s ≡ false
-  -- each implies that of a later cut, under the originals of the parts between
-  pub step : (sides : SidesView) (marks : ℕ → Label) (t : Told) (root : ℕ) → IsTold t → clause_told t.steps root ≡ Some [] → (cut later : ℕ) → cut ≤ later → (s : Assignment) → PartsHold cut later t.steps root s → IsTrue (cut_value sides marks t.steps root cut s) → IsTrue (cut_value sides marks t.steps root later s)
-  -- so each follows from the originals of side A
-  pub implied : (sides : SidesView) (marks : ℕ → Label) (t : Told) (root : ℕ) → IsNotedRefutation sides t root → (cut : ℕ) (s : Assignment) → PartsHold 0 cut t.steps root s → cut_value sides marks t.steps root cut s ≡ true
+  -- each follows from the originals of side A
+  pub implied : (sides : SidesView) (marks : ℕ → Label) (t : Told) (root : ℕ) → IsEmptyRoot t root → (cut : ℕ) (s : Assignment) → PartsHold (is_on_side_a cut) t.steps root s → cut_value sides marks t.steps root cut s ≡ true
   -- and contradicts those of side B
-  pub refuted : (sides : SidesView) (marks : ℕ → Label) (t : Told) (root : ℕ) → IsNotedRefutation sides t root → (cut : ℕ) → cut ≤ sides.parts → (s : Assignment) → PartsHold cut sides.parts t.steps root s → cut_value sides marks t.steps root cut s ≡ false
+  pub refuted : (sides : SidesView) (marks : ℕ → Label) (t : Told) (root : ℕ) → IsEmptyRoot t root → (cut : ℕ) (s : Assignment) → PartsHold (is_on_side_b cut) t.steps root s → cut_value sides marks t.steps root cut s ≡ false
+  -- with the originals between them each implies that of a later cut
+  pub step : (sides : SidesView) (marks : ℕ → Label) (t : Told) (root : ℕ) → IsEmptyRoot t root → (cut later : ℕ) → cut ≤ later → (s : Assignment) → PartsHold (is_between cut later) t.steps root s → IsTrue (cut_value sides marks t.steps root cut s) → IsTrue (cut_value sides marks t.steps root later s)
+  -- and no assignment makes all originals true
+  pub nothing_left : (t : Told) (root : ℕ) → IsEmptyRoot t root → (s : Assignment) → ¬ PartsHold (λ part. true) t.steps root s
+
+-- what is said holds of each refutation by originals of parts up to the last one: of the sides, the steps and their root
+abbrev pub EachPartedRoot : (SidesView → List ToldStep → ℕ → Type 0) → Type 0
+EachPartedRoot Says = (sides : SidesView) (t : Told) (root : ℕ) → IsEmptyRoot t root → 1 ≤ sides.parts → NeededHaveParts sides.parts t.steps root → Says sides t.steps root
+
+-- the outputs of one refutation at its cuts
+pub record OutputsFollow : Type 0 where
+  -- each follows from the originals of side A
+  pub implied : (marks : ℕ → Label) → EachPartedRoot (λ sides steps root. (cut : ℕ) → cut ≤ sides.parts → (s : Assignment) → PartsHold (is_on_side_a cut) steps root s → output_value sides marks steps root cut s ≡ true)
+  -- and contradicts those of side B
+  pub refuted : (marks : ℕ → Label) → EachPartedRoot (λ sides steps root. (cut : ℕ) → cut ≤ sides.parts → (s : Assignment) → PartsHold (is_on_side_b cut) steps root s → output_value sides marks steps root cut s ≡ false)
+  -- with the originals between them each implies that of a later cut
+  pub step : (marks : ℕ → Label) → EachPartedRoot (λ sides steps root. (cut later : ℕ) → cut < later → later ≤ sides.parts → (s : Assignment) → PartsHold (is_between cut later) steps root s → IsTrue (output_value sides marks steps root cut s) → IsTrue (output_value sides marks steps root later s))
 
 -- at one cut, marks that are nowhere above others give an interpolant that implies the one by the others
 abbrev pub MarksByStrength : Type 0

@@ -21,14 +21,14 @@ HasEdge edges id = (e : StepEdge) × Contains edges e × (e.id.0 ≡ id)
 
 -- what a variable of an original is labelled where the rules let it into the edge of the clause: as one of the other side
 abbrev pub crossing_label : Bool → Label
-crossing_label on_side_a = if on_side_a then B else A
+crossing_label leaf_of_a = if leaf_of_a then B else A
 
 -- the edge has the value of an original of the part, and reaches variables of the clause alone that are labelled as ones of the other side
 pub record IsLeafEdge (l : Labelling) (part : ℕ) (c : Clause) (nodes : List Node) (e : Edge) : Type 0 where
   -- its value
-  pub value : (s : Assignment) → edge_value s nodes e ≡ (if l.on_side_a part then leaf_a_value l.label s c else leaf_b_value l.label s c)
+  pub value : (s : Assignment) → edge_value s nodes e ≡ (if l.is_leaf_of_a part then leaf_a_value l.label s c else leaf_b_value l.label s c)
   -- its variables
-  pub inputs : (x : ℕ) → Contains (cone nodes e) x → IsTrue (occurs_in_clause x c) × (l.label x ≡ crossing_label (l.on_side_a part))
+  pub inputs : (x : ℕ) → Contains (cone nodes e) x → IsTrue (occurs_in_clause x c) × (l.label x ≡ crossing_label (l.is_leaf_of_a part))
 
 -- one of the edges reaches the variable
 pub record IsEdgeReached (edges : List StepEdge) (nodes : List Node) (x : ℕ) : Type 0 where
@@ -63,7 +63,7 @@ pub record Crosses (l : Labelling) (steps : List ToldStep) (x : ℕ) : Type 0 wh
   -- its clause has the variable
   pub occurs : IsTrue (occurs_in_clause x step.literals)
   -- which is labelled as one of the other side
-  pub label_is : l.label x ≡ crossing_label (l.on_side_a part)
+  pub label_is : l.label x ≡ crossing_label (l.is_leaf_of_a part)
 
 -- the rules let the variable into edges
 abbrev pub MayEnter : Labelling → List ToldStep → ℕ → Type 0

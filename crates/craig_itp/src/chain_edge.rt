@@ -14,7 +14,8 @@ use craig_proof::Step;
 use craig_system::System;
 use std::alloc::AllocError;
 
-/// The edge of an original, by the side of its part.
+/// The edge of an original: a leaf of side A where its part is one from 1 to the cut, and else one of side B, also where it
+/// is the common part 0.
 pub(crate) fn leaf_edge<S: System>(
     aig: &mut Aig,
     sides: &Sides,
@@ -28,7 +29,7 @@ pub(crate) fn leaf_edge<S: System>(
     ensures leaf { IfOk result (IsLeafEdge (labelling sides.now cut (S.marks system.now)) part.0 lits.now aig.new) }
     ensures grows { ArenaGrows aig.old aig.new }
 {
-    if part.0 <= cut {
+    if part.0 > 0 && part.0 <= cut {
         system.leaf_a(aig, sides, cut, lits)
     } else {
         system.leaf_b(aig, sides, cut, lits)

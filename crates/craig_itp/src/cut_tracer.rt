@@ -51,7 +51,8 @@ impl<'a, S: System> Model for CutTracer<'a, S> {
 }
 
 impl<'a, S: System> CutTracer<'a, S> {
-    /// The tracer that was told nothing, at the cut that puts the parts up to `cut` on side A and the others on side B.
+    /// The tracer that was told nothing, at the cut that puts the parts from 1 to `cut` on side A, the later ones on side B
+    /// and part 0 on both, where its originals are leaves of side B.
     /// It adds its nodes to those of the arena, and takes no memory.
     pub fn new(
         alloc: Global,
@@ -184,27 +185,4 @@ impl<'a, S: System> Tracer for CutTracer<'a, S> {
         ensures kept { setting (S.marks self.new.system) self.new ≡ setting (S.marks self.old.system) self.old }
         ensures unchanged { self.new ≡ self.old }
     {}
-}
-
-#[cfg(test)]
-mod tests {
-    use super::*;
-    use craig_system::Pudlak;
-    use std::test::Fail;
-
-    #[test]
-    fn an_untold_clause_has_no_edge(rt: HostRuntime) -> Result<(), Fail> {
-        let sides = Sides::new(rt.alloc(), 1);
-        let aig = Aig::new(rt.alloc());
-        let mut tracer = CutTracer::new(rt.alloc(), aig, &sides, 1, &Pudlak);
-        let empty: [Lit; 0] = [];
-        tracer.original(ClauseId(5), Part(1), &empty)?;
-        assert_eq!(rt; tracer.edge(ClauseId(4)), None);
-        assert_eq!(rt; tracer.edge(ClauseId(5)), Some(Aig::constant(false)));
-        tracer.forget(ClauseId(5));
-        tracer.reclaim();
-        let aig = tracer.into_aig();
-        assert_eq!(rt; aig.len(), 1);
-        Ok(())
-    }
 }

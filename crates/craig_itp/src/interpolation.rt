@@ -1,40 +1,19 @@
 //! Interpolants of a refutation that a chain store keeps.
-ghost use Rattle.std.specs.Prelude.{◌≡◌, ◌<◌, ◌≤◌, [], Some, length, IfOk};
-ghost use Rattle.craig_spec.specs.Chain.{IsUnforgotten, clause_told, nothing_told};
+ghost use Rattle.std.specs.Prelude.{◌≡◌, ◌<◌, ◌≤◌, [], All, Some, length, IfOk};
+ghost use Rattle.craig_spec.specs.Chain.{IsUnforgotten, clause_told};
 ghost use Rattle.craig_aig.specs.Growth.{ArenaGrows};
-ghost use Rattle.craig_itp.specs.CutTracer.{setting};
-ghost use Rattle.craig_itp.specs.Interpolants.{AreInterpolants, IsInterpolant, IsInterpolantAt, NeededAreNoted};
+ghost use Rattle.craig_spec.specs.Cut.{all_cuts};
+ghost use Rattle.craig_itp.specs.Interpolants.{AreInterpolants, IsInterpolant, IsOutput, NeededAreNoted};
+ghost use Rattle.craig_itp.specs.Walk.{EndInRoot};
 
-use crate::{CutTracer, Edges};
+use crate::Edges;
+use crate::walk::edge_of_root;
 use craig_aig::{Aig, Edge};
 use craig_base::ClauseId;
 use craig_label::Sides;
-use craig_proof::ChainStore;
+use craig_proof::{ChainStore, Needed};
 use craig_system::System;
 use std::alloc::{AllocError, Global};
-use std::mem::replace;
-
-/// The edge of the root, which the tracer is told from the chains that it needs. The tracer was told nothing.
-fn replayed_edge<S: System>(
-    store: &ChainStore,
-    root: ClauseId,
-    tracer: &mut CutTracer<'_, S>,
-) -> Result<Edge, AllocError>
-    requires root { IsUnforgotten store.now.told.steps root.0 }
-    requires nothing { tracer.old.told ≡ nothing_told }
-    requires noted { NeededAreNoted tracer.old.sides store.now.told.steps root.0 }
-    ensures interpolant { IfOk result (IsInterpolantAt (setting (S.marks tracer.old.system) tracer.old) store.now.told.steps root.0 tracer.new.nodes) }
-    ensures kept { setting (S.marks tracer.new.system) tracer.new ≡ setting (S.marks tracer.old.system) tracer.old }
-{
-    craig_proof::laws::needed_part_stands();
-    crate::laws::partial_values_of_the_needed_part();
-    store.each_clause_follows();
-    store.replay(root, tracer)?;
-    match tracer.edge(root) {
-        Some(edge) => Ok(edge),
-        None => unreachable!(),
-    }
-}
 
 /// The interpolant of one cut: the edge that the rules of the system give to the root, over the kept chains that it
 /// needs. The root was told as the empty clause and isn't forgotten, and the sides have noted each variable of the
@@ -59,16 +38,109 @@ pub fn interpolate<S: System>(
     ensures interpolant { IfOk result (IsInterpolant sides.now cut (S.marks system.now) store.now.told.steps root.0 aig.new) }
     ensures grows { ArenaGrows aig.old aig.new }
 {
-    let given = replace(aig, Aig::new(alloc));
-    let mut tracer = CutTracer::new(alloc, given, sides, cut, system);
-    let outcome = replayed_edge(store, root, &mut tracer);
-    *aig = tracer.into_aig();
-    outcome
+    crate::laws::needed_parts_tell_all();
+    store.each_clause_follows();
+    // What holds of each arena is known from here on.
+    let _ = aig.len();
+    let needed = store.needed(root)?;
+    edge_of_root(alloc, &needed, root, sides, cut, system, aig)
 }
 
-/// The interpolants of all cuts, from 0 to the number of parts, all from the chains of one root, with the conditions of
-/// [`interpolate`]. The first is the constant true and the last the constant false, where the originals are of parts
-/// from 1 on.
+/// The output at a cut, from the steps that the root needs: the constant true at cut 0, the constant false at the cut behind
+/// all parts, and the interpolant elsewhere.
+fn output<S: System>(
+    alloc: Global,
+    needed: &Needed<'_>,
+    root: ClauseId,
+    sides: &Sides,
+    cut: u16,
+    system: &S,
+    aig: &mut Aig,
+) -> Result<Edge, AllocError>
+    requires cut { cut ≤ sides.now.parts }
+    requires ends { EndInRoot sides.now needed.now root.0 }
+    ensures output { IfOk result (IsOutput sides.now cut (S.marks system.now) needed.now root.0 aig.new) }
+    ensures grows { ArenaGrows aig.old aig.new }
+{
+    // What holds of each arena is known from here on.
+    let _ = aig.len();
+    let parts = sides.parts();
+    if cut == 0 {
+        return Ok(Aig::constant(true));
+    }
+    if cut == parts {
+        return Ok(Aig::constant(false));
+    }
+    edge_of_root(alloc, needed, root, sides, cut, system, aig)
+}
+
+/// The outputs of the cuts as [`chosen`] gives them, from the steps that the root needs, as
+/// [`ChainStore::needed`](craig_proof::ChainStore::needed) finds them: more than one system may share these.
+pub fn outputs<S: System>(
+    alloc: Global,
+    needed: &Needed<'_>,
+    root: ClauseId,
+    sides: &Sides,
+    cuts: &[u16],
+    system: &S,
+    aig: &mut Aig,
+) -> Result<Edges, AllocError>
+    requires cuts { All (λ cut. cut ≤ sides.now.parts) cuts.now }
+    requires ends { EndInRoot sides.now needed.now root.0 }
+    ensures interpolants { IfOk result (AreInterpolants sides.now (S.marks system.now) needed.now root.0 aig.new cuts.now) }
+    ensures grows { ArenaGrows aig.old aig.new }
+{
+    // What holds of each arena is known from here on.
+    let _ = aig.len();
+    let mut edges = Edges::new(alloc);
+    for cut in cuts {
+        let edge = output(alloc, needed, root, sides, *cut, system, aig)?;
+        edges.push(edge)?;
+    }
+    Ok(edges)
+}
+
+/// The outputs of the chosen cuts, in order and all from the chains of one root, with the conditions of [`interpolate`]
+/// at each cut: the constant true at cut 0, the constant false at the cut behind all parts, and the interpolants
+/// elsewhere.
+///
+/// The steps that the root needs are found once. Each cut then takes one walk over their chains, with an edge a step.
+pub fn chosen<S: System>(
+    alloc: Global,
+    store: &ChainStore,
+    root: ClauseId,
+    sides: &Sides,
+    cuts: &[u16],
+    system: &S,
+    aig: &mut Aig,
+) -> Result<Edges, AllocError>
+    requires root { IsUnforgotten store.now.told.steps root.0 }
+    requires empty { clause_told store.now.told.steps root.0 ≡ Some [] }
+    requires cuts { All (λ cut. cut ≤ sides.now.parts) cuts.now }
+    requires noted { NeededAreNoted sides.now store.now.told.steps root.0 }
+    ensures interpolants { IfOk result (AreInterpolants sides.now (S.marks system.now) store.now.told.steps root.0 aig.new cuts.now) }
+    ensures grows { ArenaGrows aig.old aig.new }
+{
+    crate::laws::needed_parts_tell_all();
+    store.each_clause_follows();
+    // What holds of each arena is known from here on.
+    let _ = aig.len();
+    let needed = store.needed(root)?;
+    outputs(alloc, &needed, root, sides, cuts, system, aig)
+}
+
+/// The numbers of all cuts, from 0 to that of the parts.
+pub fn cuts_up_to(alloc: Global, parts: u16) -> Result<Vec<u16>, AllocError>
+    ensures { IfOk result (λ cuts. cuts.items ≡ all_cuts parts) }
+{
+    let mut cuts = Vec::new(alloc);
+    for cut in 0..=parts {
+        cuts.push(cut)?;
+    }
+    Ok(cuts)
+}
+
+/// The outputs of all cuts, as [`chosen`] gives them.
 pub fn sequence<S: System>(
     alloc: Global,
     store: &ChainStore,
@@ -80,58 +152,11 @@ pub fn sequence<S: System>(
     requires root { IsUnforgotten store.now.told.steps root.0 }
     requires empty { clause_told store.now.told.steps root.0 ≡ Some [] }
     requires noted { NeededAreNoted sides.now store.now.told.steps root.0 }
-    ensures interpolants { IfOk result (AreInterpolants sides.now (S.marks system.now) store.now.told.steps root.0 aig.new) }
+    ensures interpolants { IfOk result (AreInterpolants sides.now (S.marks system.now) store.now.told.steps root.0 aig.new (all_cuts sides.now.parts)) }
     ensures grows { ArenaGrows aig.old aig.new }
 {
-    craig_aig::laws::no_input_is_constant();
-    crate::laws::cuts_of_a_refutation();
-    store.each_clause_follows();
-    let mut edges = Edges::new(alloc);
-    for cut in 0..=sides.parts() {
-        let edge = interpolate(alloc, store, root, sides, cut, system, aig)?;
-        edges.push(edge)?;
-    }
-    Ok(edges)
-}
-
-#[cfg(test)]
-mod tests {
-    use super::*;
-    use crate::example::tell_refutation;
-    use craig_base::{Part, Var};
-    use craig_system::Pudlak;
-    use std::test::Fail;
-
-    #[test]
-    fn the_interpolant_of_two_parts_is_their_shared_variable(rt: HostRuntime) -> Result<(), Fail> {
-        let mut store = ChainStore::new(rt.alloc());
-        let mut sides = Sides::new(rt.alloc(), 2);
-        tell_refutation(&mut store, &mut sides, Part(1), Part(1), Part(2))?;
-        let mut aig = Aig::new(rt.alloc());
-        let edge = interpolate(
-            rt.alloc(),
-            &store,
-            ClauseId(4),
-            &sides,
-            1,
-            &Pudlak,
-            &mut aig,
-        )?;
-        assert_eq!(rt; edge, aig.input(Var(0))?);
-        Ok(())
-    }
-
-    #[test]
-    fn a_sequence_has_an_interpolant_for_each_cut(rt: HostRuntime) -> Result<(), Fail> {
-        let mut store = ChainStore::new(rt.alloc());
-        let mut sides = Sides::new(rt.alloc(), 3);
-        tell_refutation(&mut store, &mut sides, Part(1), Part(2), Part(3))?;
-        let mut aig = Aig::new(rt.alloc());
-        let edges = sequence(rt.alloc(), &store, ClauseId(4), &sides, &Pudlak, &mut aig)?;
-        let x = aig.input(Var(1))?;
-        let y = aig.input(Var(0))?;
-        let expected = [Aig::constant(true), x, y, Aig::constant(false)];
-        assert_eq!(rt; edges.as_slice(), expected.as_slice());
-        Ok(())
-    }
+    // What holds of each arena is known from here on.
+    let _ = aig.len();
+    let cuts = cuts_up_to(alloc, sides.parts())?;
+    chosen(alloc, store, root, sides, cuts.as_slice(), system, aig)
 }

@@ -1,5 +1,6 @@
 //! Laws of partial interpolants over the told steps alone, whichever edges stand for them. The functions do nothing.
-ghost use Rattle.craig_itp.specs.PartialValues.{CutsFollow, LabellingsImply, MarksByStrength, PartialValuesByRules, PartialValuesOfNeededPart};
+ghost use Rattle.craig_itp.specs.Walk.{NeededPartsTellAll};
+ghost use Rattle.craig_itp.specs.PartialValues.{CutsFollow, LabellingsImply, MarksByStrength, OutermostAreConstant, OutputsFollow, PartialValuesByRules, PartialValuesOfNeededPart};
 
 /// The values by which partial interpolants are defined are those that the rules give at each step, and no others are.
 /// The value of a new step is by the values before it, which stay, also when an id is forgotten or steps are given up.
@@ -16,18 +17,27 @@ pub fn partial_values_of_the_needed_part()
 {}
 
 /// Two labellings of one refutation, the first nowhere above the second: the partial interpolant of a clause by the
-/// first implies that by the second, together with the originals under it that the second alone has on side A, and
-/// with the negations of its literals that are labelled AB or B by the first and AB or A by the second. The empty
-/// clause has no literal.
+/// first implies that by the second, together with the originals under it that are leaves of side A by the second
+/// alone, and with the negations of its literals that are labelled AB or B by the first and AB or A by the second. The
+/// empty clause has no literal.
+///
+/// Where all is labelled B and there is no leaf of side A, each value is true, and where all is labelled A and each leaf
+/// is of side A, false.
 pub fn two_labellings()
-    ensures { LabellingsImply }
+    ensures imply { LabellingsImply }
+    ensures outermost { OutermostAreConstant }
 {}
 
-/// The interpolants of one refutation at its cuts: true at cut 0, false at the last one, and each implies the one at a
-/// later cut, together with the originals of the parts between. So each follows from the originals of side A, and
-/// contradicts those of side B.
+/// The partial interpolants of one refutation at its cuts: each follows from the originals of side A, contradicts those
+/// of side B, and implies that of a later cut, together with the originals between the two. No assignment makes all
+/// originals true.
 pub fn cuts_of_a_refutation()
     ensures { CutsFollow }
+{}
+
+/// The same of the outputs, which are the constant true at cut 0 and the constant false behind all parts.
+pub fn outputs_of_a_refutation()
+    ensures { OutputsFollow }
 {}
 
 /// At one cut, marks that are nowhere above others give an interpolant that implies the one by the others.
@@ -35,18 +45,10 @@ pub fn marks_by_strength()
     ensures { MarksByStrength }
 {}
 
-#[cfg(test)]
-mod tests {
-    use super::*;
-    use std::test::Fail;
-
-    #[test]
-    fn the_laws_are_called(_rt: HostRuntime) -> Result<(), Fail> {
-        partial_values_by_steps();
-        partial_values_of_the_needed_part();
-        two_labellings();
-        cuts_of_a_refutation();
-        marks_by_strength();
-        Ok(())
-    }
+/// The part of the steps that a root needs ends in the root, and interpolants by it are interpolants by all steps. So
+/// [`outputs`](crate::outputs) may be asked for more than one system over steps that were found once.
+pub fn needed_parts_tell_all()
+    ensures { NeededPartsTellAll }
+{
+    craig_proof::laws::needed_part_stands();
 }

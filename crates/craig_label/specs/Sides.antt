@@ -1,11 +1,12 @@
--- In which parts variables occur, and on which side of a cut.
-use Rattle.std.specs.Prelude.{◌≡◌, ℕ, ◌≤◌, Bool, false, List, nat_eq, nat_le, nat_lt, min, max, Option, Some, None, slice_index_or, if◌then◌else◌}
+-- In which parts variables occur, and on which side of a cut. Part 0 is common: a variable that it has is on both sides of
+-- every cut.
+use Rattle.std.specs.Prelude.{◌≡◌, ℕ, ◌≤◌, Bool, false, ◌||◌, List, nat_eq, nat_le, nat_lt, min, max, Option, Some, None, slice_index_or, if◌then◌else◌}
 use Rattle.craig_label.specs.declared.side.Side.{Side}
 use Rattle.craig_label.specs.declared.side.Side.TheVariants.{ALocal, Shared, BLocal, Absent}
 
 -- the first and the last part that a variable was noted in
 pub record Range : Type 0 where
-  -- the first part
+  -- the first part, which is 0 where the variable is common
   pub first : ℕ
   -- the last part
   pub last : ℕ
@@ -21,10 +22,8 @@ pub record SidesView : Type 0 where
 abbrev pub range_of : SidesView → ℕ → Option Range
 range_of sides x = slice_index_or sides.ranges x None
 
--- a range is of parts from 1 to the last one
+-- a range is of parts from 0 to the last one
 pub record IsRange (parts : ℕ) (r : Range) : Type 0 where
-  -- parts are counted from 1
-  pub first : 1 ≤ r.first
   -- the first part isn't after the last one
   pub ordered : r.first ≤ r.last
   -- and that is one of the parts
@@ -49,15 +48,15 @@ pub record IsNoted (old : SidesView) (x part : ℕ) (new : SidesView) : Type 0 w
   -- the range of the variable is widened, and the others stay
   pub ranges : (y : ℕ) → range_of new y ≡ (if nat_eq y x then Some (widened (range_of old x) part) else range_of old y)
 
--- a part up to the cut has a variable of the range
+-- part 0 or one up to the cut has a variable of the range
 abbrev pub is_in_a : ℕ → Option Range → Bool
 is_in_a cut None = false
 is_in_a cut (Some r) = nat_le r.first cut
 
--- a part after the cut has a variable of the range
+-- part 0 or one after the cut has a variable of the range
 abbrev pub is_in_b : ℕ → Option Range → Bool
 is_in_b cut None = false
-is_in_b cut (Some r) = nat_lt cut r.last
+is_in_b cut (Some r) = nat_eq r.first 0 || nat_lt cut r.last
 
 -- the variable occurs on side A of the cut
 abbrev pub occurs_in_a : SidesView → ℕ → ℕ → Bool

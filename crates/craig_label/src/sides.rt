@@ -54,11 +54,10 @@ impl Sides {
         }
     }
 
-    /// Notes that a dense variable occurs in a part, counted from 1. It takes memory for the variables up to this one.
-    /// After an error nothing is noted.
+    /// Notes that a dense variable occurs in a part: one counted from 1, or the common part 0, which is on both sides of
+    /// every cut. It takes memory for the variables up to this one. After an error nothing is noted.
     pub fn note(&mut self, var: Var, part: Part) -> Result<(), AllocError>
-        requires first { 1 ≤ part.0 }
-        requires last { part.0 ≤ self.old.parts }
+        requires { part.0 ≤ self.old.parts }
         ensures noted { OnOk result (IsNoted self.old var.0 part.0 self.new) }
         ensures is_sides { IsSides self.new }
         ensures unchanged { OnErr result (self.new ≡ self.old) }
@@ -90,7 +89,8 @@ impl Sides {
         self.parts
     }
 
-    /// Where a dense variable occurs at the cut that puts the parts up to `cut` on side A and the others on side B.
+    /// Where a dense variable occurs at the cut that puts the parts from 1 to `cut` on side A, the later ones on side B
+    /// and part 0 on both.
     pub fn class(&self, var: Var, cut: u16) -> Side
         requires { cut ≤ self.now.parts }
         ensures side { result ≡ side_at self.now cut var.0 }
@@ -100,37 +100,8 @@ impl Sides {
         match range {
             None => Side::Absent,
             Some(range) if range.first > cut => Side::BLocal,
-            Some(range) if range.last <= cut => Side::ALocal,
+            Some(range) if range.first > 0 && range.last <= cut => Side::ALocal,
             Some(_) => Side::Shared,
         }
-    }
-}
-
-#[cfg(test)]
-mod tests {
-    use super::*;
-    use std::test::Fail;
-
-    #[test]
-    fn sides_at_each_cut(rt: HostRuntime) -> Result<(), Fail> {
-        let mut noted = Sides::new(rt.alloc(), 3);
-        noted.note(Var(0), Part(1))?;
-        noted.note(Var(0), Part(2))?;
-        noted.note(Var(1), Part(3))?;
-        let sides = noted.copy()?;
-        assert_eq!(rt; sides.parts(), 3);
-        for (cut, expected) in [
-            (1, [Side::Shared, Side::BLocal, Side::Absent]),
-            (2, [Side::ALocal, Side::BLocal, Side::Absent]),
-            (3, [Side::ALocal, Side::ALocal, Side::Absent]),
-        ] {
-            let found = [
-                sides.class(Var(0), cut),
-                sides.class(Var(1), cut),
-                sides.class(Var(2), cut),
-            ];
-            assert_eq!(rt; found, expected);
-        }
-        Ok(())
     }
 }

@@ -4,12 +4,13 @@ use Rattle.craig_spec.specs.Literal.{Literal, negation}
 use Rattle.craig_spec.specs.Truth.{Assignment, literal_value}
 use Rattle.craig_spec.specs.PartialInterpolant.{Label, A, AB, B, join_value}
 use Rattle.craig_spec.proofs.LiteralLemmas.{literal_value-negation}
-use Rattle.craig_aig.specs.Cones.{ConeWithin}
+use Rattle.craig_spec.proofs.MemberLemmas.{Contains-one}
+use Rattle.craig_aig.specs.Cones.{ChoiceConeWithin, ConeWithin}
 use Rattle.craig_aig.specs.Growth.{ArenaGrows}
 use Rattle.craig_aig.specs.Edges.{Edge}
-use Rattle.craig_aig.specs.Values.{edge_value}
+use Rattle.craig_aig.specs.Values.{edge_value, ComputesChoice}
 use Rattle.craig_aig.specs.declared.node.Node.{Node}
-use Rattle.craig_system.specs.Building.{IsMore}
+use Rattle.craig_system.specs.Building.{IsLiteral, IsMore}
 use Rattle.craig_system.specs.Rules.{IsChoice, IsJoin}
 use Rattle.craig_aig.proofs.GrowthLemmas.{value-ArenaGrows, cone-ArenaGrows}
 
@@ -38,6 +39,24 @@ IsChoice-and pivot old a b new left right first second e one two left_in right_i
       elim (inputs x reached) [
         | inl h ↦ elim (is_first.inputs x (subst (λ (k : List ℕ). Contains k x) (cone-ArenaGrows a b first two first_in) h)) [ inl l ↦ inl l | inr v ↦ inr (inr v) ]
         | inr h ↦ elim (is_second.inputs x h) [ inl r ↦ inr (inl (subst (λ (k : List ℕ). Contains k x) (cone-ArenaGrows old a right one right_in) r)) | inr v ↦ inr (inr v) ]
+      ];
+}
+
+-- the choice that the arena makes by the edge of the pivot
+pub IsChoice-mux : (pivot : Literal) (old a new : List Node) (left right literal e : Edge) → ArenaGrows old a → left.place < length old → right.place < length old → IsLiteral pivot a literal →
+    ComputesChoice a literal right left new e → ChoiceConeWithin a literal right left new e → IsChoice pivot old left right new e
+IsChoice-mux pivot old a new left right literal e grows left_in right_in is_literal value inputs = record {
+  value = λ s.
+      value s ∙ ap (λ p. cond p (edge_value s a right) (edge_value s a left)) (is_literal.value s)
+      ∙ ap (λ v. cond (literal_value s pivot) v (edge_value s a left)) (value-ArenaGrows s old a right grows right_in)
+      ∙ ap (λ v. cond (literal_value s pivot) (edge_value s old right) v) (value-ArenaGrows s old a left grows left_in);
+  inputs = λ x reached.
+      elim (inputs x reached) [
+        | inl p ↦ inr (inr (sym (Contains-one pivot.var x (subst (λ (k : List ℕ). Contains k x) is_literal.inputs p))))
+        | inr m ↦ elim m [
+          | inl r ↦ inr (inl (subst (λ (k : List ℕ). Contains k x) (cone-ArenaGrows old a right grows right_in) r))
+          | inr l ↦ inl (subst (λ (k : List ℕ). Contains k x) (cone-ArenaGrows old a left grows left_in) l)
+        ]
       ];
 }
 

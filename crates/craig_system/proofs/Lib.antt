@@ -1,4 +1,5 @@
 mod JoinLemmas
 mod LeafLemmas
 mod LiteralLemmas
-mod ResultLemmas
+mod MarkingLemmas
+pub mod ResultLemmas

@@ -6,10 +6,18 @@
 #![tactic(auto)]
 
 mod choice;
+mod dual_pudlak;
+mod inverse;
 mod leaf;
 mod literal;
+mod marked;
+mod mcmillan;
 mod pudlak;
 mod system;
 
+pub use dual_pudlak::DualPudlak;
+pub use inverse::Inverse;
+pub use marked::Marked;
+pub use mcmillan::McMillan;
 pub use pudlak::Pudlak;
 pub use system::System;

@@ -8,7 +8,7 @@ use craig_base::Lit;
 use std::alloc::AllocError;
 
 /// The edge of a literal: the input of its variable, or the negation of that.
-fn literal_edge(aig: &mut Aig, lit: Lit) -> Result<Edge, AllocError>
+pub(crate) fn literal_edge(aig: &mut Aig, lit: Lit) -> Result<Edge, AllocError>
     ensures within { IfOk result (λ e. e.place < length aig.new) }
     ensures literal { IfOk result (IsLiteral lit aig.new) }
     ensures grows { ArenaGrows aig.old aig.new }

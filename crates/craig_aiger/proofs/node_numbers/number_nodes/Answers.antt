@@ -1,4 +1,5 @@
 use Rattle.std.proofs.Common.{◌<◌, ◌^◌, arith, take}
+use Rattle.std.proofs.lemmas.Result.{IfOk-from_err}
 use Rattle.craig_aiger.proofs.TableLemmas.{Numbered-more, All-more, gates_more, one_node, named_input}
 use Rattle.craig_aiger.proofs.node_numbers.number_nodes.Goals as goal
 
@@ -12,3 +13,9 @@ loop-node-preserved c = record {
   taken = omega (arith, c.taken_after-taken.ensures, c.loop-node.invariant.taken, gates_more c.args.table.now c.loop-node.node-index c.node-item.result c.node-item.is c.loop-node-test.true);
   few = omega (arith, c.taken_after-taken.ensures, c.loop-node.invariant.few, one_node c.node-item.result);
 }
+
+pub returns-in_err-push-clause-numbering : goal.returns-in_err-push-clause-numbering
+returns-in_err-push-clause-numbering c = IfOk-from_err _ _ c.from_residual.ensures.0
+
+pub returns-in_err-push-clause-small : goal.returns-in_err-push-clause-small
+returns-in_err-push-clause-small c = IfOk-from_err _ _ c.from_residual.ensures.0

@@ -1,5 +1,6 @@
 use Rattle.std.proofs.Common.{◌≡◌, ◌∙◌, ◌++◌, ◌∷◌, [], ap, arith, sym, map, take}
 use Rattle.std.specs.List.{filter_map}
+use Rattle.std.proofs.lemmas.Result.{IfOk-from_err}
 use Rattle.craig_aiger.specs.Layouts.{node_operands, gate_literals}
 use Rattle.craig_aiger.proofs.NeededLemmas.{operands_below}
 use Rattle.craig_aiger.proofs.TableLemmas.{gates-some, gates-none}
@@ -24,3 +25,6 @@ loop-node-preserved c = elim c.match-gate_operands.branch [
       sym (gates-some (gate_literals c.args.numbers.now) c.args.table.now c.loop-node.node-index c.node-item.result w.in-Some.operands c.loop-node-test.true (sym (ap node_operands c.node-item.is) ∙ sym c.gate_operands.ensures ∙ w.in-Some.is)))
   | in_default w ↦ ap (λ v. v.items) w.gates-is ∙ c.loop-node.invariant ∙ sym (gates-none (gate_literals c.args.numbers.now) c.args.table.now c.loop-node.node-index c.node-item.result c.loop-node-test.true (sym (ap node_operands c.node-item.is) ∙ sym c.gate_operands.ensures ∙ w.in_default.is))
 ]
+
+pub returns-in_err-push : goal.returns-in_err-push
+returns-in_err-push c = IfOk-from_err _ _ c.from_residual.ensures.0

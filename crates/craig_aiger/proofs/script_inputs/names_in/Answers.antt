@@ -1,5 +1,6 @@
 use Rattle.std.proofs.Common.{◌≤◌, All, subst, List, ℕ, ◌∙◌, ap, arith, sym, [], ◌∷◌, ◌++◌, vec_len}
 use Rattle.std.specs.Option.{option_map}
+use Rattle.std.proofs.lemmas.Result.{IfOk-from_err}
 use Rattle.craig_base.specs.declared.variable.Var.{Var}
 use Rattle.craig_aiger.specs.Layouts.{node_variable}
 use Rattle.craig_aiger.proofs.TableLemmas.{All-more, named_at, names-some, names-none}
@@ -8,6 +9,15 @@ use Rattle.craig_aiger.proofs.script_inputs.names_in.Goals.{in-Some+in_ok-push, 
 
 pub name-name-requires : goal.name-name-requires
 name-name-requires c = named_at c.args.names.now c.args.table.now c.loop-node.node-index c.node-item.result c.in-Some.var.0 c.requires c.loop-node-test.true (sym (ap node_variable c.node-item.is) ∙ c.node_input.ensures ∙ ap (option_map (λ (v : Var). v.0)) c.in-Some.is)
+
+pub returns-in_err-push-clause-names : goal.returns-in_err-push-clause-names
+returns-in_err-push-clause-names c = IfOk-from_err _ _ c.from_residual.ensures.0
+
+pub returns-in_err-push-clause-variables : goal.returns-in_err-push-clause-variables
+returns-in_err-push-clause-variables c = IfOk-from_err _ _ c.from_residual.ensures.0
+
+pub returns-in_err-push-clause-bound : goal.returns-in_err-push-clause-bound
+returns-in_err-push-clause-bound c = IfOk-from_err _ _ c.from_residual.ensures.0
 
 pub loop-node-preserved : goal.loop-node-preserved
 loop-node-preserved c = elim c.match-node_input.branch [

@@ -1,5 +1,6 @@
 use Rattle.std.proofs.Common.{◌≡◌, ◌<◌, ◌≤◌, length, map, drop, get_or, None, false, true, sym, ◌∙◌, ap, arith, rules}
 use Rattle.std.proofs.lemmas.List.{get_or-map, length-map, take_at}
+use Rattle.craig_aiger_read.proofs.FaultLemmas.{memory_error}
 use Rattle.craig_aiger_read.specs.ReadViews.{as_gate, as_operands}
 use Rattle.craig_aiger_read.proofs.CircleLemmas.{settled-all, settled-circle, settled-more}
 use Rattle.craig_aiger_read.proofs.depths.gate_depths.Goals as goal
@@ -39,3 +40,9 @@ returns c =
     let past : length c.args.lines.now ≤ c.loop-gate.gate = search rules in
     settled-all c.args.first gates lines c.loop-gate.gate c.loop-gate.depths.items c.loop-gate.invariant (omega (arith, past, length-map c.args.lines.now as_gate))
     (omega (arith, c.requires.beside, length-map c.args.lines.now as_gate, length-map c.args.gates.now as_operands))
+
+pub returns-in_err-depths : goal.returns-in_err-depths
+returns-in_err-depths c = memory_error _ _ _ _ c.from_residual.ensures.1
+
+pub returns-in_err-settle : goal.returns-in_err-settle
+returns-in_err-settle c = memory_error _ _ _ _ c.from_residual-in_err-settle.ensures.1

@@ -1,6 +1,7 @@
 use Rattle.std.proofs.Common.{◌≡◌, ◌-◌, ◌<◌, ◌≤◌, length, map, take, slice_get, sym, ◌∙◌, ap, arith}
 use Rattle.std.proofs.lemmas.Bool.Decides.{nat_tests}
 use Rattle.std.proofs.lemmas.List.{length-map, length-take-le}
+use Rattle.std.proofs.lemmas.Result.{IfOk-from_err}
 use Rattle.craig_aiger_read.specs.ReadDepths.{known_count}
 use Rattle.craig_aiger_read.specs.ReadViews.{as_operands}
 use Rattle.craig_aiger_read.proofs.SettleLemmas.{count-lt, count-set, kept-gate, known-small, pop-nearer, settling-full, settling-pop, settling-push, top-inside, top-is, top-none}
@@ -82,3 +83,39 @@ loop-gate-preserved c =
 pub returns-clause-known : goal.returns-clause-known
 returns-clause-known c = λ _. c.loop-gate.invariant.root_known
     (top-none c.loop-gate.stack.items (ap (λ z. slice_get z (length z - 1)) (sym c.as_slice.ensures.value) ∙ sym c.top_of.ensures ∙ c.in_default.is))
+
+pub returns-in_err-stack-clause-depths : goal.returns-in_err-stack-clause-depths
+returns-in_err-stack-clause-depths c = IfOk-from_err _ _ c.from_residual.ensures.0
+
+pub returns-in_err-stack-clause-stay : goal.returns-in_err-stack-clause-stay
+returns-in_err-stack-clause-stay c = IfOk-from_err _ _ c.from_residual.ensures.0
+
+pub returns-in_err-stack-clause-known : goal.returns-in_err-stack-clause-known
+returns-in_err-stack-clause-known c = IfOk-from_err _ _ c.from_residual.ensures.0
+
+pub returns-in_err-stack-clause-circle : goal.returns-in_err-stack-clause-circle
+returns-in_err-stack-clause-circle c = IfOk-from_err _ _ c.from_residual.ensures.0
+
+pub returns-in_err-push-in-Waits-clause-depths : goal.returns-in_err-push-in-Waits-clause-depths
+returns-in_err-push-in-Waits-clause-depths c = IfOk-from_err _ _ c.from_residual-in_err-push-in-Waits.ensures.0
+
+pub returns-in_err-push-in-Waits-clause-stay : goal.returns-in_err-push-in-Waits-clause-stay
+returns-in_err-push-in-Waits-clause-stay c = IfOk-from_err _ _ c.from_residual-in_err-push-in-Waits.ensures.0
+
+pub returns-in_err-push-in-Waits-clause-known : goal.returns-in_err-push-in-Waits-clause-known
+returns-in_err-push-in-Waits-clause-known c = IfOk-from_err _ _ c.from_residual-in_err-push-in-Waits.ensures.0
+
+pub returns-in_err-push-in-Waits-clause-circle : goal.returns-in_err-push-in-Waits-clause-circle
+returns-in_err-push-in-Waits-clause-circle c = IfOk-from_err _ _ c.from_residual-in_err-push-in-Waits.ensures.0
+
+pub returns-then-len-gates-clause-depths : goal.returns-then-len-gates-clause-depths
+returns-then-len-gates-clause-depths c = c.loop-gate.invariant.depths
+
+pub returns-then-len-gates-clause-stay : goal.returns-then-len-gates-clause-stay
+returns-then-len-gates-clause-stay c = c.loop-gate.invariant.stay
+
+pub returns-clause-depths : goal.returns-clause-depths
+returns-clause-depths c = c.loop-gate.invariant.depths
+
+pub returns-clause-stay : goal.returns-clause-stay
+returns-clause-stay c = c.loop-gate.invariant.stay

@@ -1,9 +1,9 @@
 use Rattle.std.proofs.Common.{◌≡◌, ◌∷◌, ◌++◌, [], map, ◌∙◌, ap, rules}
 use Rattle.std.proofs.lemmas.List.{map_push}
-use Rattle.std.proofs.lemmas.Result.{err_from_is_err_and}
+use Rattle.std.proofs.lemmas.Result.{IfOk-from_err, err_from_is_err_and}
 use Rattle.craig_spec.specs.AigerReading.{GateLine, gate_in}
 use Rattle.craig_aiger_read.specs.ReadViews.{as_counts, as_gate}
-use Rattle.craig_aiger_read.proofs.FaultLemmas.{line_error, truncated_error}
+use Rattle.craig_aiger_read.proofs.FaultLemmas.{line_error, memory_error, truncated_error}
 use Rattle.craig_aiger_read.proofs.ReadLinesLemmas.{read-fault, read-more, read-truncated}
 use Rattle.craig_aiger_read.proofs.VariablesLemmas.{insert-new, known-more, gate_in-variables}
 use Rattle.craig_aiger_read.proofs.gate_line.read_gates.Goals as goal
@@ -22,6 +22,36 @@ returns-in_err-gate-clause-read c =
     (λ f e. read-fault (gate_in (as_counts c.args.counts.now) c.args.variables.now.keys) c.args.end c.args.counts.now.gates c.loop.counter (map as_gate c.loop.gates.items) c.args.text.now c.loop.rest.now
     c.in_ok-line.line.now c.in_ok-line.behind.now f c.loop.invariant.1 (search rules) c.requires c.in_ok-line.ensures.ok
     (gate_in-variables _ _ c.loop.variables.keys _ _ _ c.loop.invariant.0 ∙ e))
+
+pub returns-in_err-line-clause-variables : goal.returns-in_err-line-clause-variables
+returns-in_err-line-clause-variables c = IfOk-from_err _ _ c.from_residual.ensures.0
+
+pub returns-in_err-line-clause-shorter : goal.returns-in_err-line-clause-shorter
+returns-in_err-line-clause-shorter c = IfOk-from_err _ _ c.from_residual.ensures.0
+
+pub returns-in_err-gate-clause-variables : goal.returns-in_err-gate-clause-variables
+returns-in_err-gate-clause-variables c = IfOk-from_err _ _ c.from_residual-in_err-gate.ensures.0
+
+pub returns-in_err-gate-clause-shorter : goal.returns-in_err-gate-clause-shorter
+returns-in_err-gate-clause-shorter c = IfOk-from_err _ _ c.from_residual-in_err-gate.ensures.0
+
+pub returns-in_err-insert-clause-read : goal.returns-in_err-insert-clause-read
+returns-in_err-insert-clause-read c = memory_error _ _ _ _ c.from_residual-in_err-insert.ensures.1
+
+pub returns-in_err-insert-clause-variables : goal.returns-in_err-insert-clause-variables
+returns-in_err-insert-clause-variables c = IfOk-from_err _ _ c.from_residual-in_err-insert.ensures.0
+
+pub returns-in_err-insert-clause-shorter : goal.returns-in_err-insert-clause-shorter
+returns-in_err-insert-clause-shorter c = IfOk-from_err _ _ c.from_residual-in_err-insert.ensures.0
+
+pub returns-in_err-push-clause-read : goal.returns-in_err-push-clause-read
+returns-in_err-push-clause-read c = memory_error _ _ _ _ c.from_residual-in_err-push.ensures.1
+
+pub returns-in_err-push-clause-variables : goal.returns-in_err-push-clause-variables
+returns-in_err-push-clause-variables c = IfOk-from_err _ _ c.from_residual-in_err-push.ensures.0
+
+pub returns-in_err-push-clause-shorter : goal.returns-in_err-push-clause-shorter
+returns-in_err-push-clause-shorter c = IfOk-from_err _ _ c.from_residual-in_err-push.ensures.0
 
 pub loop-preserved : goal.loop-preserved
 loop-preserved c =

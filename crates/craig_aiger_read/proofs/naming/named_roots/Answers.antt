@@ -1,4 +1,5 @@
 use Rattle.std.proofs.Common.{◌<◌, get_or, length, ◌∙◌, ap, arith}
+use Rattle.std.proofs.lemmas.Result.{IfOk-from_err}
 use Rattle.craig_aiger_read.specs.ReadOrder.{moved_by}
 use Rattle.craig_aiger_read.proofs.NamingLemmas.{roots-more}
 use Rattle.craig_aiger_read.proofs.naming.named_roots.Goals as goal
@@ -15,3 +16,6 @@ loop-place-preserved c =
           (c.moved-literal.ensures ∙ ap (λ z. moved_by c.args.first c.args.variables.now (get_or c.args.literals.now z 0)) place) c.in_ok-push.ensures.items,
       omega (arith, size, next, c.loop-place.invariant.1),
     )
+
+pub returns-in_err-push : goal.returns-in_err-push
+returns-in_err-push c = IfOk-from_err _ _ c.from_residual.ensures.0

@@ -1,4 +1,4 @@
-use Rattle.std.proofs.Common.{◌≡◌, ◌-◌, List, length, map, Ok, sym, ◌∙◌, ap, subst, arith}
+use Rattle.std.proofs.Common.{◌≡◌, ◌-◌, List, length, map, Ok, sym, ◌∙◌, ap, subst}
 use Rattle.std.proofs.lemmas.Result.{err_from_is_err_and}
 use Rattle.craig_spec.specs.AigerReading.{AigerFile, Written as WrittenText, file_written, first_gate}
 use Rattle.craig_aiger_read.specs.declared.aiger_error.AigerError.{AigerError}
@@ -11,7 +11,7 @@ use Rattle.craig_aiger_read.specs.ReadFaults.{IsFaultOf, fault_of}
 use Rattle.craig_aiger_read.specs.ReadViews.{as_gate, as_operands}
 use Rattle.craig_aiger_read.specs.ReadWritten.{KeepsWritten}
 use Rattle.craig_aiger_read.proofs.FaultLemmas.{FailsBy-through, IfErr-passed, IfOk-passed}
-use Rattle.craig_aiger_read.proofs.FileLemmas.{file-cyclic, file-parts, file-undefined, fits-names, gate-count, gates-within, variable-count}
+use Rattle.craig_aiger_read.proofs.FileLemmas.{file-cyclic, file-parts, file-undefined, first_gate-counted, fits-names, gate-count, gates-few, gates-within, lines-fewer}
 use Rattle.craig_aiger_read.proofs.reading.circuit_of.Goals as goal
 
 pub numbered_of-requires : goal.numbered_of-requires
@@ -41,7 +41,7 @@ returns-in_err-numbered-clause-fault c =
     (λ w h. FailsBy-through (fault_of c.in_err-numbered.field-0.0) (undefined_in kept) (file_written w) (λ f e. file-undefined w kept f h e) c.in_err-numbered.ensures.err)
 
 pub overflow_sub-first : goal.overflow_sub-first
-overflow_sub-first c = omega (arith, c.len.ensures.len, ap length c.as_slice-lines.ensures.value, variable-count c.requires.kept.0 c.args.written c.requires.kept.1)
+overflow_sub-first c = lines-fewer _ _ c.requires.kept.0 c.args.written c.len.ensures.len c.as_slice-lines.ensures.value c.requires.kept.1
 
 pub moves_of-requires-clause-beside : goal.moves_of-requires-clause-beside
 moves_of-requires-clause-beside c =
@@ -52,7 +52,7 @@ moves_of-requires-clause-within c =
     let kept = c.args.written in
     let first = c.len.result - length c.as_slice-lines.result.now in
     let at : (w : WrittenText) → KeepsWritten w kept → first ≡ first_gate w =
-    λ w h. omega (arith, c.len.ensures.len, ap length c.as_slice-lines.ensures.value, variable-count w kept h) in
+    λ w h. first_gate-counted _ _ w kept c.len.ensures.len c.as_slice-lines.ensures.value h in
     let w = c.requires.kept.0 in
     let h = c.requires.kept.1 in
     let n = c.in_ok-numbered.numbered in
@@ -65,19 +65,19 @@ moves_of-requires-clause-small c =
     let kept = c.args.written in
     let first = c.len.result - length c.as_slice-lines.result.now in
     let at : (w : WrittenText) → KeepsWritten w kept → first ≡ first_gate w =
-    λ w h. omega (arith, c.len.ensures.len, ap length c.as_slice-lines.ensures.value, variable-count w kept h) in
+    λ w h. first_gate-counted _ _ w kept c.len.ensures.len c.as_slice-lines.ensures.value h in
     let w = c.requires.kept.0 in
     let h = c.requires.kept.1 in
     let n = c.in_ok-numbered.numbered in
     let is = c.in_ok-numbered.ensures.ok in
-    omega (arith, at w h, variable-count w kept h, gate-count w kept n h is, ap length c.as_slice.ensures.value, c.requires.few)
+    gates-few first _ _ w kept n (at w h) c.requires.few c.as_slice.ensures.value h is
 
 pub returns-in_err-moves-clause-fault : goal.returns-in_err-moves-clause-fault
 returns-in_err-moves-clause-fault c =
     let kept = c.args.written in
     let first = c.len.result - length c.as_slice-lines.result.now in
     let at : (w : WrittenText) → KeepsWritten w kept → first ≡ first_gate w =
-    λ w h. omega (arith, c.len.ensures.len, ap length c.as_slice-lines.ensures.value, variable-count w kept h) in
+    λ w h. first_gate-counted _ _ w kept c.len.ensures.len c.as_slice-lines.ensures.value h in
     let w = c.requires.kept.0 in
     let h = c.requires.kept.1 in
     let n = c.in_ok-numbered.numbered in
@@ -95,7 +95,7 @@ circuit_with-requires c =
     let kept = c.args.written in
     let first = c.len.result - length c.as_slice-lines.result.now in
     let at : (w : WrittenText) → KeepsWritten w kept → first ≡ first_gate w =
-    λ w h. omega (arith, c.len.ensures.len, ap length c.as_slice-lines.ensures.value, variable-count w kept h) in
+    λ w h. first_gate-counted _ _ w kept c.len.ensures.len c.as_slice-lines.ensures.value h in
     let w = c.requires.kept.0 in
     let h = c.requires.kept.1 in
     let n = c.in_ok-numbered.numbered in
@@ -117,7 +117,7 @@ returns-clause-file c =
     let kept = c.args.written in
     let first = c.len.result - length c.as_slice-lines.result.now in
     let at : (w : WrittenText) → KeepsWritten w kept → first ≡ first_gate w =
-    λ w h. omega (arith, c.len.ensures.len, ap length c.as_slice-lines.ensures.value, variable-count w kept h) in
+    λ w h. first_gate-counted _ _ w kept c.len.ensures.len c.as_slice-lines.ensures.value h in
     let w = c.requires.kept.0 in
     let h = c.requires.kept.1 in
     let n = c.in_ok-numbered.numbered in

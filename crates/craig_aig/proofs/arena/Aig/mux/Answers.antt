@@ -1,5 +1,5 @@
 use Rattle.std.proofs.Common.{◌≡◌, ◌⊎◌, ◌||◌, ℕ, cond, Contains}
-use Rattle.std.proofs.lemmas.Result.{IfOk-weaker}
+use Rattle.std.proofs.lemmas.Result.{IfOk-from_err, IfOk-weaker}
 use Rattle.craig_spec.specs.Truth.{Assignment}
 use Rattle.craig_aig.specs.Cones.{cone, ConeWithin}
 use Rattle.craig_aig.specs.Edges.{Edge}
@@ -40,3 +40,36 @@ returns-clause-grows c =
 pub returns-clause-known : goal.returns-clause-known
 returns-clause-known c = λ known.
     c.or.ensures.known (last_known c.args.self.now c.and.new.self c.and-2.new.self c.args.select c.args.yes c.args.no c.not.result c.in_ok-chosen.chosen c.in_ok-other.other known c.not.ensures.edge c.in_ok-chosen.ensures.conjunction c.in_ok-other.ensures.conjunction)
+
+pub and-requires-clause-left : goal.and-requires-clause-left
+and-requires-clause-left c = c.requires.select
+
+pub and-requires-clause-right : goal.and-requires-clause-right
+and-requires-clause-right c = c.requires.yes
+
+pub returns-in_err-chosen-clause-within : goal.returns-in_err-chosen-clause-within
+returns-in_err-chosen-clause-within c = IfOk-from_err _ _ c.from_residual.ensures.0
+
+pub returns-in_err-chosen-clause-computes : goal.returns-in_err-chosen-clause-computes
+returns-in_err-chosen-clause-computes c = IfOk-from_err _ _ c.from_residual.ensures.0
+
+pub returns-in_err-chosen-clause-cone : goal.returns-in_err-chosen-clause-cone
+returns-in_err-chosen-clause-cone c = IfOk-from_err _ _ c.from_residual.ensures.0
+
+pub returns-in_err-chosen-clause-grows : goal.returns-in_err-chosen-clause-grows
+returns-in_err-chosen-clause-grows c = c.and.ensures.grows
+
+pub returns-in_err-other-clause-within : goal.returns-in_err-other-clause-within
+returns-in_err-other-clause-within c = IfOk-from_err _ _ c.from_residual-in_err-other.ensures.0
+
+pub returns-in_err-other-clause-computes : goal.returns-in_err-other-clause-computes
+returns-in_err-other-clause-computes c = IfOk-from_err _ _ c.from_residual-in_err-other.ensures.0
+
+pub returns-in_err-other-clause-cone : goal.returns-in_err-other-clause-cone
+returns-in_err-other-clause-cone c = IfOk-from_err _ _ c.from_residual-in_err-other.ensures.0
+
+pub or-requires-clause-right : goal.or-requires-clause-right
+or-requires-clause-right c = c.in_ok-other.ensures.within
+
+pub returns-clause-within : goal.returns-clause-within
+returns-clause-within c = c.or.ensures.within

@@ -1,4 +1,5 @@
 use Rattle.std.proofs.Common.{subst, sym, ap, length, Contains, arith}
+use Rattle.std.proofs.lemmas.Result.{IfOk-from_err}
 use Rattle.craig_spec.specs.Circuit.{IsStrict}
 use Rattle.craig_aiger.specs.Layouts.{AreNamed, IsLayout, Layout, OperandsBelow, circuit_of, edges_of}
 use Rattle.craig_aiger.proofs.NeededLemmas.{OperandsBelow-needed}
@@ -46,3 +47,63 @@ returns c =
           c.in_ok-inputs.ensures.variables c.in_ok-outputs.ensures.cuts strict;
       strict = strict;
     }
+
+pub returns-in_err-table-clause-layout : goal.returns-in_err-table-clause-layout
+returns-in_err-table-clause-layout c = IfOk-from_err _ _ c.from_residual.ensures.0
+
+pub returns-in_err-table-clause-functions : goal.returns-in_err-table-clause-functions
+returns-in_err-table-clause-functions c = IfOk-from_err _ _ c.from_residual.ensures.0
+
+pub returns-in_err-table-clause-is_writable : goal.returns-in_err-table-clause-is_writable
+returns-in_err-table-clause-is_writable c = IfOk-from_err _ _ c.from_residual.ensures.0
+
+pub returns-in_err-table-clause-strict : goal.returns-in_err-table-clause-strict
+returns-in_err-table-clause-strict c = IfOk-from_err _ _ c.from_residual.ensures.0
+
+pub returns-in_err-inputs-clause-layout : goal.returns-in_err-inputs-clause-layout
+returns-in_err-inputs-clause-layout c = IfOk-from_err _ _ c.from_residual-in_err-inputs.ensures.0
+
+pub returns-in_err-inputs-clause-functions : goal.returns-in_err-inputs-clause-functions
+returns-in_err-inputs-clause-functions c = IfOk-from_err _ _ c.from_residual-in_err-inputs.ensures.0
+
+pub returns-in_err-inputs-clause-is_writable : goal.returns-in_err-inputs-clause-is_writable
+returns-in_err-inputs-clause-is_writable c = IfOk-from_err _ _ c.from_residual-in_err-inputs.ensures.0
+
+pub returns-in_err-inputs-clause-strict : goal.returns-in_err-inputs-clause-strict
+returns-in_err-inputs-clause-strict c = IfOk-from_err _ _ c.from_residual-in_err-inputs.ensures.0
+
+pub returns-in_err-numbers-clause-layout : goal.returns-in_err-numbers-clause-layout
+returns-in_err-numbers-clause-layout c = IfOk-from_err _ _ c.from_residual-in_err-numbers.ensures.0
+
+pub returns-in_err-numbers-clause-functions : goal.returns-in_err-numbers-clause-functions
+returns-in_err-numbers-clause-functions c = IfOk-from_err _ _ c.from_residual-in_err-numbers.ensures.0
+
+pub returns-in_err-numbers-clause-is_writable : goal.returns-in_err-numbers-clause-is_writable
+returns-in_err-numbers-clause-is_writable c = IfOk-from_err _ _ c.from_residual-in_err-numbers.ensures.0
+
+pub returns-in_err-numbers-clause-strict : goal.returns-in_err-numbers-clause-strict
+returns-in_err-numbers-clause-strict c = IfOk-from_err _ _ c.from_residual-in_err-numbers.ensures.0
+
+pub returns-in_err-gates-clause-layout : goal.returns-in_err-gates-clause-layout
+returns-in_err-gates-clause-layout c = IfOk-from_err _ _ c.from_residual-in_err-gates.ensures.0
+
+pub returns-in_err-gates-clause-functions : goal.returns-in_err-gates-clause-functions
+returns-in_err-gates-clause-functions c = IfOk-from_err _ _ c.from_residual-in_err-gates.ensures.0
+
+pub returns-in_err-gates-clause-is_writable : goal.returns-in_err-gates-clause-is_writable
+returns-in_err-gates-clause-is_writable c = IfOk-from_err _ _ c.from_residual-in_err-gates.ensures.0
+
+pub returns-in_err-gates-clause-strict : goal.returns-in_err-gates-clause-strict
+returns-in_err-gates-clause-strict c = IfOk-from_err _ _ c.from_residual-in_err-gates.ensures.0
+
+pub returns-in_err-outputs-clause-layout : goal.returns-in_err-outputs-clause-layout
+returns-in_err-outputs-clause-layout c = IfOk-from_err _ _ c.from_residual-in_err-outputs.ensures.0
+
+pub returns-in_err-outputs-clause-functions : goal.returns-in_err-outputs-clause-functions
+returns-in_err-outputs-clause-functions c = IfOk-from_err _ _ c.from_residual-in_err-outputs.ensures.0
+
+pub returns-in_err-outputs-clause-is_writable : goal.returns-in_err-outputs-clause-is_writable
+returns-in_err-outputs-clause-is_writable c = IfOk-from_err _ _ c.from_residual-in_err-outputs.ensures.0
+
+pub returns-in_err-outputs-clause-strict : goal.returns-in_err-outputs-clause-strict
+returns-in_err-outputs-clause-strict c = IfOk-from_err _ _ c.from_residual-in_err-outputs.ensures.0

@@ -1,3 +1,4 @@
+use Rattle.std.proofs.lemmas.Result.{IfOk-from_err}
 use Rattle.craig_aiger.proofs.RoundTripLemmas.{reads_as}
 use Rattle.craig_aiger.proofs.layout.Layout.write_aag.Goals as goal
 
@@ -6,3 +7,6 @@ returns-in_err-reserve-clause-reads_back c = reads_as c.args.self.now c.size_of.
 
 pub returns-clause-reads_back : goal.returns-clause-reads_back
 returns-clause-reads_back c = reads_as c.args.self.now c.size_of.ensures.is_writable
+
+pub returns-in_err-reserve-clause-text : goal.returns-in_err-reserve-clause-text
+returns-in_err-reserve-clause-text c = IfOk-from_err _ _ c.from_residual.ensures.0

@@ -2,4 +2,5 @@ pub mod LinesLemmas
 pub mod NumbersLemmas
 pub mod Outcomes
 pub mod ReadingLemmas
+pub mod RisingLemmas
 pub mod WordsLemmas

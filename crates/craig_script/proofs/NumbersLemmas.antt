@@ -104,9 +104,10 @@ unless_zero-some None n e = cc
 unless_zero-some (Some zero) n e = cc
 unless_zero-some (Some (suc m)) n e = let same : Some (suc m) ≡ Some n = sym (unless_zero-suc m) ∙ e in let is : suc m ≡ n = cc in (same, omega (arith, is))
 
-option_map-some : (f : ℕ → ℤ) (o : Option ℕ) (z : ℤ) → option_map f o ≡ Some z → (n : ℕ) × (o ≡ Some n) × (f n ≡ z)
-option_map-some f None z e = cc
-option_map-some f (Some n) z e = (n, refl, let same : f n ≡ z = cc in same)
+-- what an option was that was mapped
+pub option_map-some : {A B : Type 0} (f : A → B) (o : Option A) (y : B) → option_map f o ≡ Some y → (x : A) × (o ≡ Some x) × (f x ≡ y)
+option_map-some f None y e = cc
+option_map-some f (Some x) y e = (x, refl, let same : f x ≡ y = cc in same)
 
 -- a word that begins with a minus sign
 is_negated-cons : (word : List ℕ) → is_negated word ≡ true → word ≡ 45 ∷ drop 1 word

@@ -1,38 +1,105 @@
 //! The tests on what a command names.
 
-ghost use Rattle.std.specs.Prelude.{◌≡◌};
+ghost use Rattle.std.specs.Prelude.{◌≡◌, ◌≤◌, nat_le, IfSome};
 ghost use Rattle.std.specs.List.{list_all};
 ghost use Rattle.std.specs.Int.RustNames.{unsigned_abs};
-ghost use Rattle.craig_script.specs.Reading.{admitted, parts_named, variables_named, is_within, variable_limit};
+ghost use Rattle.craig_script.specs.Reading.{admitted, are_cuts_within, are_parts_within, are_rising_within, gives_parts, natural, next_least, variables_named, is_within, variable_limit};
 
 use crate::command::Command;
+use crate::cut_word::CutWord;
 use crate::refusal::Refusal;
 
 /// The most that a variable of the script is.
 const VARIABLE_LIMIT: u64 = 2147483647;
 
-/// Tests what a command names: that each part is from 1 to `parts`, and then that each variable is from 1 to
-/// 2147483647. Whether a clause has been accepted makes no difference yet. It takes no memory.
+/// The most parts that a script has.
+const PART_LIMIT: u64 = 4096;
+
+/// Tests what a command names. A number of parts is refused where a clause was accepted. Then each part is to be from 0
+/// to `parts`, and a number of parts from 1 to 4096; then each variable from 1 to 2147483647; and then chosen cuts are to
+/// rise and be at most `parts`. It takes no memory.
 pub fn admit(parts: u16, any_clause: bool, command: &Command) -> Result<(), Refusal>
-    ensures { result ≡ admitted parts command.now }
+    ensures { result ≡ admitted parts any_clause command.now }
 {
-    if !parts_are_within(parts.into(), command) {
+    if any_clause && gives_parts(command) {
+        Err(Refusal::LateParts)
+    } else if !parts_are_within(parts.into(), command) {
         Err(Refusal::Range)
     } else if !variables_are_within(VARIABLE_LIMIT, command) {
         Err(Refusal::Variable)
+    } else if !cuts_are_within(parts, command) {
+        Err(Refusal::CutRange)
     } else {
         Ok(())
     }
 }
 
-/// Whether each part that the command names is from 1 to the limit.
-fn parts_are_within(limit: u64, command: &Command) -> bool
-    ensures { result ≡ list_all (is_within limit) (parts_named command.now) }
+/// Whether the command gives the number of parts.
+fn gives_parts(command: &Command) -> bool
+    ensures { result ≡ gives_parts command.now }
+{
+    matches!(command, Command::Parts(_))
+}
+
+/// Whether each part that the command names is from 0 to `parts`, and a number of parts from 1 to the most.
+fn parts_are_within(parts: u64, command: &Command) -> bool
+    ensures { result ≡ are_parts_within parts command.now }
 {
     match command {
-        Command::Nothing => true,
-        Command::Add { part, .. } => is_within(limit, *part),
-        Command::Solve(pairs) => each_part_is_within(limit, pairs.as_slice()),
+        Command::Nothing | Command::System(_) | Command::Mark { .. } | Command::Cuts(_) => true,
+        Command::Parts(count) => is_within(PART_LIMIT, *count),
+        Command::Add { part, .. } => *part <= parts,
+        Command::Solve(pairs) => each_part_is_within(parts, pairs.as_slice()),
+    }
+}
+
+/// Whether the cuts that the command chooses rise and are at most `parts`.
+fn cuts_are_within(parts: u16, command: &Command) -> bool
+    ensures { result ≡ are_cuts_within parts command.now }
+{
+    match command {
+        Command::Cuts(CutWord::Chosen(cuts)) => are_rising_within(parts.into(), cuts.as_slice()),
+        _ => true,
+    }
+}
+
+/// Whether the numbers rise, from 0 on to the greatest.
+fn are_rising_within(greatest: u64, numbers: &[i64]) -> bool
+    requires { greatest ≤ 65535 }
+    ensures { result ≡ are_rising_within 0 greatest numbers.now }
+{
+    let mut least = 0;
+    for number in numbers {
+        let Some(next) = next_least(least, greatest, number) else {
+            return false;
+        };
+        least = next;
+    }
+    true
+}
+
+/// The least that may come after the number, where it is from the least to the greatest itself.
+fn next_least(least: u64, greatest: u64, number: &i64) -> Option<u64>
+    requires { greatest ≤ 65535 }
+    ensures next { result ≡ next_least least greatest (natural number.now) }
+    ensures bound { IfSome result (λ next. next ≤ 65536) }
+{
+    let number = natural(*number)?;
+    if least <= number && number <= greatest {
+        Some(number + 1)
+    } else {
+        None
+    }
+}
+
+/// The number, where it isn't negative.
+fn natural(number: i64) -> Option<u64>
+    ensures { result ≡ natural number }
+{
+    if number < 0 {
+        None
+    } else {
+        Some(number as u64)
     }
 }
 
@@ -41,17 +108,18 @@ fn variables_are_within(limit: u64, command: &Command) -> bool
     ensures { result ≡ list_all (is_within limit) (variables_named command.now) }
 {
     match command {
-        Command::Nothing => true,
+        Command::Nothing | Command::Parts(_) | Command::System(_) | Command::Cuts(_) => true,
+        Command::Mark { name, .. } => is_within(limit, *name),
         Command::Add { lits, .. } => each_literal_is_within(limit, lits.as_slice()),
         Command::Solve(pairs) => each_assumption_is_within(limit, pairs.as_slice()),
     }
 }
 
-/// Whether the part of each pair is from 1 to the limit.
-fn each_part_is_within(limit: u64, pairs: &[(u64, i64)]) -> bool
-    ensures { result ≡ list_all (λ pair. is_within limit pair.0) pairs.now }
+/// Whether the part of each pair is from 0 to `parts`.
+fn each_part_is_within(parts: u64, pairs: &[(u64, i64)]) -> bool
+    ensures { result ≡ list_all (λ pair. nat_le pair.0 parts) pairs.now }
 {
-    pairs.iter().all(|pair| is_within(limit, pair.0))
+    pairs.iter().all(|pair| pair.0 <= parts)
 }
 
 /// Whether the variable of each assumption is from 1 to the limit.

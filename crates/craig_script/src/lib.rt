@@ -8,6 +8,7 @@
 mod admission;
 mod bytes;
 mod command;
+mod cut_word;
 pub mod laws;
 mod line;
 mod lines;
@@ -22,13 +23,11 @@ mod words;
 pub use admission::admit;
 pub use bytes::Bytes;
 pub use command::Command;
+pub use cut_word::CutWord;
 pub use line::Line;
 pub use lines::{LINE_LIMIT, Lines};
 pub use numbers::Numbers;
 pub use pairs::Pairs;
 pub use reading::parse;
 pub use refusal::{LineFault, Refusal};
-pub use setting_words::{FormatWord, SystemWord};
-
-#[cfg(test)]
-mod tests;
+pub use setting_words::{FormatWord, MarkWord, SystemWord};

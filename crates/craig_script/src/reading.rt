@@ -2,23 +2,25 @@
 //!
 //! The readers take the line a word at a time, and copy nothing of what is left of it.
 
-ghost use Rattle.std.specs.Prelude.{◌≡◌, List, ℤ, [], ◌∷◌, codes, IsTrue, IsErrAnd, slice_index, ◌==◌};
+ghost use Rattle.std.specs.Prelude.{◌≡◌, List, ℤ, [], ◌∷◌, Ok, Err, codes, IsTrue, IsErrAnd, IfNone, IfSome, slice_index, ◌==◌};
 ghost use Rattle.std.specs.Str.{bytes_eq};
 ghost use Rattle.craig_script.specs.Words.{words};
-ghost use Rattle.craig_script.specs.Reading.{IsParsedAs, IsNoMemory, parsed, command_of, add_of, solve_of, literals_to_end, is_comment, is_end, then_nothing, begins_clause, begins_with_literal, begins_with_part_and_literal, may_take_memory};
+ghost use Rattle.craig_script.specs.Reading.{IsParsedAs, IsNoMemory, parsed, command_of, add_of, solve_of, literals_to_end, is_comment, is_end, then_nothing, begins_list, begins_with_literal, begins_with_number, begins_with_part_and_literal, may_take_memory, parts_of, system_of, mark_of, cuts_of, numbers_to_end, only_word, system_named, mark_named};
 
 use crate::command::Command;
+use crate::cut_word::CutWord;
 use crate::line::Line;
 use crate::lines::LINE_LIMIT;
 use crate::literal::{literal_in, number_in};
 use crate::numbers::Numbers;
 use crate::pairs::Pairs;
 use crate::refusal::{LineFault, Refusal};
+use crate::setting_words::{MarkWord, SystemWord};
 use crate::words::next_word;
 use std::alloc::Global;
 
 /// The command that a line asks for. An overlong line is refused as such, and any other line that isn't
-/// in the grammar as `Syntax`. Only the literals of a clause take memory.
+/// in the grammar as `Syntax`. Only the literals of a clause and chosen cuts take memory.
 pub fn parse(alloc: Global, line: &Line) -> Result<Command, LineFault>
     ensures read { IsParsedAs result (parsed line.now) }
     ensures memory { IsErrAnd result IsNoMemory → IsTrue (may_take_memory line.now) }
@@ -35,7 +37,7 @@ pub fn parse(alloc: Global, line: &Line) -> Result<Command, LineFault>
 /// The command that the words ask for.
 fn command(alloc: Global, line: &[u8]) -> Result<Command, LineFault>
     ensures read { IsParsedAs result (command_of (words line.now)) }
-    ensures memory { IsErrAnd result IsNoMemory → IsTrue (begins_clause (words line.now)) }
+    ensures memory { IsErrAnd result IsNoMemory → IsTrue (begins_list (words line.now)) }
 {
     let Some((word, rest)) = next_word(line) else {
         return Ok(Command::Nothing);
@@ -44,6 +46,14 @@ fn command(alloc: Global, line: &[u8]) -> Result<Command, LineFault>
         Ok(Command::Nothing)
     } else if is_word(word, b"add") {
         add(alloc, rest)
+    } else if is_word(word, b"parts") {
+        parts(rest)
+    } else if is_word(word, b"system") {
+        system(rest)
+    } else if is_word(word, b"mark") {
+        mark(rest)
+    } else if is_word(word, b"cuts") {
+        cuts(alloc, rest)
     } else if is_word(word, b"solve") {
         solve(alloc, rest)
     } else {
@@ -64,6 +74,73 @@ fn add(alloc: Global, line: &[u8]) -> Result<Command, LineFault>
     };
     let lits = literals(alloc, rest)?;
     Ok(Command::Add { part, lits })
+}
+
+/// A number of parts.
+fn parts(line: &[u8]) -> Result<Command, LineFault>
+    ensures read { IsParsedAs result (parts_of (words line.now)) }
+    ensures memory { IsErrAnd result IsNoMemory → ⊥ }
+{
+    let Some(word) = only_word(line) else {
+        return Err(LineFault::Refused(Refusal::Syntax));
+    };
+    let Some(count) = number_in(word) else {
+        return Err(LineFault::Refused(Refusal::Syntax));
+    };
+    Ok(Command::Parts(count))
+}
+
+/// The name of a system.
+fn system(line: &[u8]) -> Result<Command, LineFault>
+    ensures read { IsParsedAs result (system_of (words line.now)) }
+    ensures memory { IsErrAnd result IsNoMemory → ⊥ }
+{
+    let Some(word) = only_word(line) else {
+        return Err(LineFault::Refused(Refusal::Syntax));
+    };
+    let Some(system) = system_named(word) else {
+        return Err(LineFault::Refused(Refusal::Syntax));
+    };
+    Ok(Command::System(system))
+}
+
+/// A variable and a mark.
+fn mark(line: &[u8]) -> Result<Command, LineFault>
+    ensures read { IsParsedAs result (mark_of (words line.now)) }
+    ensures memory { IsErrAnd result IsNoMemory → ⊥ }
+{
+    let Some((word, rest)) = next_word(line) else {
+        return Err(LineFault::Refused(Refusal::Syntax));
+    };
+    let Some(name) = number_in(word) else {
+        return Err(LineFault::Refused(Refusal::Syntax));
+    };
+    let Some(word) = only_word(rest) else {
+        return Err(LineFault::Refused(Refusal::Syntax));
+    };
+    let Some(mark) = mark_named(word) else {
+        return Err(LineFault::Refused(Refusal::Syntax));
+    };
+    Ok(Command::Mark { name, mark })
+}
+
+/// The word for all cuts, or one or more numbers.
+fn cuts(alloc: Global, line: &[u8]) -> Result<Command, LineFault>
+    ensures read { IsParsedAs result (cuts_of (words line.now)) }
+    ensures memory { IsErrAnd result IsNoMemory → IsTrue (begins_with_number (words line.now)) }
+{
+    let Some((word, rest)) = next_word(line) else {
+        return Err(LineFault::Refused(Refusal::Syntax));
+    };
+    if is_word(word, b"all") {
+        return if next_word(rest).is_none() {
+            Ok(Command::Cuts(CutWord::All))
+        } else {
+            Err(LineFault::Refused(Refusal::Syntax))
+        };
+    }
+    let chosen = numbers(alloc, line)?;
+    Ok(Command::Cuts(CutWord::Chosen(chosen)))
 }
 
 /// The end alone.
@@ -101,6 +178,72 @@ fn literals(alloc: Global, line: &[u8]) -> Result<Numbers, LineFault>
         rest = behind;
     }
     Err(LineFault::Refused(Refusal::Syntax))
+}
+
+/// Numbers, to the end of the line.
+fn numbers(alloc: Global, line: &[u8]) -> Result<Numbers, LineFault>
+    ensures read { IsParsedAs result (numbers_to_end (words line.now)) }
+    ensures memory { IsErrAnd result IsNoMemory → IsTrue (begins_with_number (words line.now)) }
+{
+    let mut numbers = Numbers::new(alloc);
+    let mut rest = line;
+    while let Some((word, behind)) = next_word(rest) {
+        let Some(number) = number_in(word) else {
+            return Err(LineFault::Refused(Refusal::Syntax));
+        };
+        numbers.push(number as i64).map_err(LineFault::NoMemory)?;
+        rest = behind;
+    }
+    Ok(numbers)
+}
+
+/// The word of a line that has one alone.
+fn only_word(line: &[u8]) -> Option<&[u8]>
+    ensures none { IfNone result (only_word (words line.now) ≡ Err Refusal.Syntax) }
+    ensures some { IfSome result (λ word. only_word (words line.now) ≡ Ok word.now) }
+{
+    let (word, rest) = next_word(line)?;
+    if next_word(rest).is_none() {
+        Some(word)
+    } else {
+        None
+    }
+}
+
+/// The system that the word names.
+fn system_named(word: &[u8]) -> Option<SystemWord>
+    ensures { result ≡ system_named word.now }
+{
+    if is_word(word, b"mcmillan") {
+        Some(SystemWord::McMillan)
+    } else if is_word(word, b"pudlak") {
+        Some(SystemWord::Pudlak)
+    } else if is_word(word, b"inverse") {
+        Some(SystemWord::Inverse)
+    } else if is_word(word, b"dual") {
+        Some(SystemWord::Dual)
+    } else if is_word(word, b"marks") {
+        Some(SystemWord::Marks)
+    } else if is_word(word, b"all") {
+        Some(SystemWord::All)
+    } else {
+        None
+    }
+}
+
+/// The mark that the word names.
+fn mark_named(word: &[u8]) -> Option<MarkWord>
+    ensures { result ≡ mark_named word.now }
+{
+    if is_word(word, b"a") {
+        Some(MarkWord::A)
+    } else if is_word(word, b"ab") {
+        Some(MarkWord::Ab)
+    } else if is_word(word, b"b") {
+        Some(MarkWord::B)
+    } else {
+        None
+    }
 }
 
 /// Whether the word begins a comment.

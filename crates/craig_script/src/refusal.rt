@@ -6,18 +6,22 @@ ghost use Rattle.craig_script.specs.Refusals.{number_of_refusal};
 use std::alloc::AllocError;
 use thiserror::Error;
 
-/// Why a line is refused. Where several reasons stand, `Overlong` comes first, then `Syntax`, then `Range`,
-/// then `Variable`.
+/// Why a line is refused. Where several reasons stand, `Overlong` comes first, then `Syntax`, then `LateParts`, then
+/// `Range`, then `Variable`, then `CutRange`.
 #[derive(Clone, Copy, Debug, PartialEq, Eq)]
 pub enum Refusal {
     /// The line isn't in the grammar.
     Syntax,
     /// The line is longer than the limit.
     Overlong,
-    /// A part isn't from 1 to the number of parts.
+    /// A part isn't from 0 to the number of parts, or a number of parts isn't from 1 to 4096.
     Range,
     /// A variable isn't from 1 to 2147483647.
     Variable,
+    /// The number of parts is given after a clause was accepted.
+    LateParts,
+    /// A cut is above the number of parts, or isn't above the one before it.
+    CutRange,
 }
 
 impl Refusal {
@@ -30,6 +34,8 @@ impl Refusal {
             Refusal::Overlong => 2,
             Refusal::Range => 3,
             Refusal::Variable => 4,
+            Refusal::LateParts => 5,
+            Refusal::CutRange => 7,
         }
     }
 }

@@ -17,6 +17,17 @@ pub enum SystemWord {
     All,
 }
 
+/// The label of a variable that occurs on both sides of a cut, under the system of marks.
+#[derive(Clone, Copy, Debug, PartialEq, Eq)]
+pub enum MarkWord {
+    /// It counts as one of side A.
+    A,
+    /// It counts as one of both sides.
+    Ab,
+    /// It counts as one of side B.
+    B,
+}
+
 /// The format in which circuits are written.
 #[derive(Clone, Copy, Debug, PartialEq, Eq)]
 pub enum FormatWord {

@@ -30,9 +30,3 @@ any_below-one f n j l others = elim (cases_Bool (f j)) [
   | inl t ↦ any_below-some f n j l t ∙ sym t
   | inr e ↦ any_below-none f n (λ k h. elim (cases_eq k j) [ inl same ↦ ap f same ∙ e | inr other ↦ others k h other ]) ∙ sym e
 ]
-
--- two tests with the same answer
-pub same_answer : (a b : Bool) → (a ≡ true → b ≡ true) → (b ≡ true → a ≡ true) → a ≡ b
-same_answer true b f g = sym (f refl)
-same_answer false true f g = g refl
-same_answer false false f g = refl

@@ -73,6 +73,13 @@ odd_literal values v =
 pub constant_false : (c : Circuit) (s : Assignment) → circuit_value s c 0 ≡ false
 constant_false c s = get_or-first gate_value (false ∷ map (variable_value s) c.inputs) c.gates 0 false (omega arith)
 
+-- the literals 0 and 1 reach nothing
+pub constant_reaches_none : (c : Circuit) → circuit_cone c 0 ≡ []
+constant_reaches_none c = get_or-first gate_cone ([] ∷ map (λ y. y ∷ []) c.inputs) c.gates 0 [] (omega arith)
+
+pub one_reaches_none : (c : Circuit) → circuit_cone c 1 ≡ []
+one_reaches_none c = get_or-first gate_cone ([] ∷ map (λ y. y ∷ []) c.inputs) c.gates 0 [] (omega arith)
+
 pub odd_negates : (c : Circuit) (s : Assignment) (v : ℕ) → circuit_value s c (2 * v + 1) ≡ not (circuit_value s c (2 * v))
 odd_negates c s v = odd_literal (circuit_values s c.inputs c.gates) v ∙ ap not (sym (even_literal (circuit_values s c.inputs c.gates) v))
 

@@ -1,5 +1,5 @@
 -- Which words a line has that is read as a command.
-use Rattle.std.proofs.Common.{◌≡◌, ◌∙◌, sym, ap, subst, refl, ℕ, zero, suc, ◌≤◌, Bool, true, false, not, ◌==◌, nat_le, cond, List, [], ◌∷◌, ◌++◌, length, map, Option, Some, None, option_map, Result, Ok, Err, codes, drop, ℤ, pos, neg_ℤ, leb-true}
+use Rattle.std.proofs.Common.{◌≡◌, ◌∙◌, sym, ap, subst, refl, ℕ, zero, suc, ◌≤◌, Bool, true, false, not, ◌&&◌, ◌==◌, nat_le, cond, List, [], ◌∷◌, ◌++◌, length, map, Option, Some, None, option_map, Result, Ok, Err, codes, drop, ℤ, pos, neg_ℤ, leb-true}
 use Rattle.std.specs.Fmt.{decimal, signed_decimal}
 use Rattle.std.specs.Int.RustNames.{unsigned_abs}
 use Rattle.std.specs.List.{list_all}
@@ -7,18 +7,25 @@ use Rattle.std.specs.Str.{bytes_eq}
 use Rattle.std.proofs.lemmas.Bool.{and_parts, eq-eqb, eqb-true}
 use Rattle.std.proofs.lemmas.Slice.Eq.{bytes_eq-Decides}
 use Rattle.craig_script.specs.declared.command.Command.{Command}
-use Rattle.craig_script.specs.declared.command.Command.TheVariants.{Nothing, Add, Solve}
+use Rattle.craig_script.specs.declared.command.Command.TheVariants.{Nothing, Parts, Add, System, Mark, Cuts, Solve}
+use Rattle.craig_script.specs.declared.cut_word.CutWord.TheVariants as cut
+use Rattle.craig_script.specs.declared.setting_words.MarkWord.{MarkWord}
+use Rattle.craig_script.specs.declared.setting_words.SystemWord.{SystemWord}
 use Rattle.craig_script.specs.declared.line.Line.{Line}
 use Rattle.craig_script.specs.declared.line.Line.TheVariants as line
 use Rattle.craig_script.specs.declared.refusal.Refusal.{Refusal}
-use Rattle.craig_script.specs.declared.refusal.Refusal.TheVariants.{Syntax, Overlong, Range, Variable}
+use Rattle.craig_script.specs.declared.refusal.Refusal.TheVariants.{Syntax, Overlong, Range, Variable, LateParts, CutRange}
 use Rattle.craig_script.specs.Lines.{line_limit}
 use Rattle.craig_script.specs.NumberWords.{is_negated, literal_of, number_of, unless_zero}
-use Rattle.craig_script.specs.Reading.{◌>>=◌, add_of, admitted, command_of, is_comment, is_end, is_within, literals_to_end, or_syntax, parsed, solve_of, then_nothing, variable_limit}
+use Rattle.craig_script.specs.Reading.{◌>>=◌, add_of, admitted, are_cuts_within, are_parts_within, command_of, cuts_of, gives_parts, is_comment, is_end, is_within, literals_to_end, mark_named, mark_of, numbers_to_end, only_word, or_syntax, parsed, parts_of, solve_of, system_named, system_of, then_nothing, variable_limit, variables_named}
 use Rattle.craig_script.specs.Words.{words}
-use Rattle.craig_spec.proofs.MemberLemmas.{Contains-front, Contains-image, list_all-member}
-use Rattle.craig_top.specs.CommandLines.{AreInRange, add_words, solve_words}
-use Rattle.craig_top.specs.GivenState.{State, reading}
+use Rattle.craig_spec.specs.Cut.{PartClause}
+use Rattle.craig_spec.proofs.MemberLemmas.{Contains-image, list_all-member}
+use Rattle.craig_script.proofs.NumbersLemmas.{option_map-some}
+use Rattle.craig_top.specs.CommandLines.{AreInRange, AreRisingCuts, add_words, all_cuts_words, cuts_words, mark_word, mark_words, parts_words, solve_words, system_word, system_words}
+use Rattle.craig_top.specs.GivenState.{State, any_clause, reading}
+use Rattle.craig_top.proofs.AsReadLemmas.{as_read}
+use Rattle.craig_top.proofs.RisingCutsLemmas.{rising-cuts, within-cuts}
 
 -- ---- what a reading that goes on is made of
 
@@ -42,12 +49,12 @@ refused-ok true read r x e = (refl, e)
 refused-ok false read r x e = absurd (cc)
 
 -- a line is read as a command where it is one by the grammar and what it names is admitted
-read-ok : (state : State) (l : Line) (c : Command) → reading state l ≡ Ok c → (parsed l ≡ Ok c) × (admitted state.parts c ≡ Ok tt)
+read-ok : (state : State) (l : Line) (c : Command) → reading state l ≡ Ok c → (parsed l ≡ Ok c) × (admitted state.settings.parts (any_clause state.accepted) c ≡ Ok tt)
 read-ok state l c e =
-    let one = bind-ok (parsed l) (λ command. admitted state.parts command >>= λ _. Ok command) c e in
-    let two = bind-ok (admitted state.parts one.0) (λ _. Ok one.0) c one.2 in
+    let one = bind-ok (parsed l) (λ command. admitted state.settings.parts (any_clause state.accepted) command >>= λ _. Ok command) c e in
+    let two = bind-ok (admitted state.settings.parts (any_clause state.accepted) one.0) (λ _. Ok one.0) c one.2 in
     let same : one.0 ≡ c = same_ok one.0 c two.2 in
-    (one.1 ∙ ap Ok same, subst (λ d. admitted state.parts d ≡ Ok tt) same two.1)
+    (one.1 ∙ ap Ok same, subst (λ d. admitted state.settings.parts (any_clause state.accepted) d ≡ Ok tt) same two.1)
 
 parsed-text : (bytes : List ℕ) (c : Command) → parsed (line.Text bytes) ≡ Ok c → (nat_le (length bytes) line_limit ≡ true) × (command_of (words bytes) ≡ Ok c)
 parsed-text bytes c e = checked-ok (nat_le (length bytes) line_limit) (command_of (words bytes)) Overlong c e
@@ -61,18 +68,81 @@ nothing-ok : {A : Type 0} (ws : List (List ℕ)) (x y : A) → then_nothing ws x
 nothing-ok [] x y e = (refl, same_ok x y e)
 nothing-ok (w ∷ ws) x y e = absurd (cc)
 
-solve-words : (ws : List (List ℕ)) (c : Command) → solve_of ws ≡ Ok c → (c ≡ Solve []) × (ws ≡ codes "0" ∷ [])
-solve-words [] c e = absurd (cc)
-solve-words (w ∷ ws) c e =
-    let end = checked-ok (is_end w) (then_nothing ws (Solve [])) Syntax c e in
-    let none = nothing-ok ws (Solve []) c end.1 in
-    (sym none.1, ap (λ v. v ∷ ws) (is_zero_word w end.0) ∙ ap (λ vs. codes "0" ∷ vs) none.0)
+-- ---- the words of settings
+
+-- the two words are the same where the test says so
+same_word : (w name : List ℕ) → bytes_eq w name ≡ true → w ≡ name
+same_word w name e = (bytes_eq-Decides w name).0 e
+
+-- the first of two answers, where its test passes, and else the second
+chosen-ok : {X : Type 0} (P : X → Type 0) (b : Bool) (x : X) (rest : Option X) (y : X) → cond b (Some x) rest ≡ Some y → (b ≡ true → P x) → (rest ≡ Some y → P y) → P y
+chosen-ok P true x rest y e here later = subst P (let same : x ≡ y = cc in same) (here refl)
+chosen-ok P false x rest y e here later = later e
+
+system-form : (w : List ℕ) (s : SystemWord) → system_named w ≡ Some s → w ≡ system_word s
+system-form w s e =
+    chosen-ok Form _ _ _ s e (same_word w (codes "mcmillan"))
+    (λ e. chosen-ok Form _ _ _ s e (same_word w (codes "pudlak"))
+    (λ e. chosen-ok Form _ _ _ s e (same_word w (codes "inverse"))
+    (λ e. chosen-ok Form _ _ _ s e (same_word w (codes "dual"))
+    (λ e. chosen-ok Form _ _ _ s e (same_word w (codes "marks"))
+    (λ e. chosen-ok Form _ _ _ s e (same_word w (codes "all"))
+    (λ e. absurd (cc)))))))
+  where
+    Form : SystemWord → Type 0
+    Form t = w ≡ system_word t
+
+mark-form : (w : List ℕ) (m : MarkWord) → mark_named w ≡ Some m → w ≡ mark_word m
+mark-form w m e =
+    chosen-ok Form _ _ _ m e (same_word w (codes "a"))
+    (λ e. chosen-ok Form _ _ _ m e (same_word w (codes "ab"))
+    (λ e. chosen-ok Form _ _ _ m e (same_word w (codes "b"))
+    (λ e. absurd (cc))))
+  where
+    Form : MarkWord → Type 0
+    Form t = w ≡ mark_word t
+
+only-ok : (ws : List (List ℕ)) (w : List ℕ) → only_word ws ≡ Ok w → ws ≡ w ∷ []
+only-ok [] w e = absurd (cc)
+only-ok (v ∷ vs) w e = let none = nothing-ok vs v w e in ap (λ rest. v ∷ rest) none.0 ∙ ap (λ u. u ∷ []) none.1
+
+-- the command has these words
+abbrev Worded : Command → List (List ℕ) → Type 0
+Worded Nothing ws = Unit {0}
+Worded (Parts n) ws = ws ≡ parts_words n
+Worded (Add part lits) ws = ws ≡ add_words part lits
+Worded (System s) ws = ws ≡ system_words s
+Worded (Mark name m) ws = ws ≡ mark_words name m
+Worded (Cuts cut.All) ws = ws ≡ all_cuts_words
+Worded (Cuts (cut.Chosen zs)) ws = ws ≡ cuts_words zs
+Worded (Solve pairs) ws = (pairs ≡ []) × (ws ≡ solve_words)
+
+-- ---- the tests on what a command names
+
+late-ok : {A : Type 0} (b : Bool) (read : Result A Refusal) (r : Refusal) (x : A) → cond b (Err r) read ≡ Ok x → (b ≡ false) × (read ≡ Ok x)
+late-ok true read r x e = absurd (cc)
+late-ok false read r x e = (refl, e)
+
+-- an admitted command has passed each of them
+admitted-tests : (state : State) (c : Command) → admitted state.settings.parts (any_clause state.accepted) c ≡ Ok tt
+    → ((any_clause state.accepted && gives_parts c) ≡ false) × (are_parts_within state.settings.parts c ≡ true) × (list_all (is_within variable_limit) (variables_named c) ≡ true) × (are_cuts_within state.settings.parts c ≡ true)
+admitted-tests state c e =
+    let late = late-ok (any_clause state.accepted && gives_parts c) _ LateParts tt e in
+    let parts = refused-ok (are_parts_within state.settings.parts c) _ Range tt late.1 in
+    let variables = refused-ok (list_all (is_within variable_limit) (variables_named c)) _ Variable tt parts.1 in
+    let cuts = refused-ok (are_cuts_within state.settings.parts c) (Ok tt) CutRange tt variables.1 in
+    (late.0, parts.0, variables.0, cuts.0)
+
+-- no clause is accepted where the test says so
+no_clause : (accepted : List PartClause) → (any_clause accepted && true) ≡ false → accepted ≡ []
+no_clause [] e = refl
+no_clause (a ∷ others) e = absurd (let no : true ≡ false = e in cc)
+
+-- a number within the limit of variables
+number_range : (n : ℕ) → is_within variable_limit n ≡ true → (1 ≤ n) × (n ≤ 2147483647)
+number_range n e = let both = and_parts _ _ e in (leb-true 1 n both.0, leb-true n 2147483647 both.1)
 
 -- ---- literals
-
-mapped_some : {A B : Type 0} (f : A → B) (o : Option A) (y : B) → option_map f o ≡ Some y → (x : A) × (o ≡ Some x) × (f x ≡ y)
-mapped_some f None y e = cc
-mapped_some f (Some x) y e = (x, refl, (let same : f x ≡ y = cc in same))
 
 not_zero-cases : (m n : ℕ) (zero_is : Bool) → cond zero_is None (Some m) ≡ Some n → m ≡ n
 not_zero-cases m n true e = absurd (cc)
@@ -99,10 +169,10 @@ literal-cases : ((word : List ℕ) (n : ℕ) → number_of word ≡ Some n → w
     → cond negated (option_map (λ n. neg_ℤ (pos n)) (unless_zero (number_of (drop 1 word)))) (option_map pos (unless_zero (number_of word))) ≡ Some z → word ≡ signed_decimal z
 literal-cases number_form [] z true is e = absurd (let no : false ≡ true = is in cc)
 literal-cases number_form (b ∷ bs) z true is e =
-    let found = mapped_some (λ n. neg_ℤ (pos n)) (unless_zero (number_of bs)) z e in
+    let found = option_map-some (λ n. neg_ℤ (pos n)) (unless_zero (number_of bs)) z e in
     ap (λ c. c ∷ bs) (eqb-true b 45 is) ∙ negated_form found.0 (number_of bs) bs found.1 (number_form bs found.0 (not_zero (number_of bs) found.0 found.1)) ∙ ap signed_decimal found.2
 literal-cases number_form word z false is e =
-    let found = mapped_some pos (unless_zero (number_of word)) z e in
+    let found = option_map-some pos (unless_zero (number_of word)) z e in
     number_form word found.0 (not_zero (number_of word) found.0 found.1) ∙ ap signed_decimal found.2
 
 pub literal_form_of : ((word : List ℕ) (n : ℕ) → number_of word ≡ Some n → word ≡ decimal n) → (word : List ℕ) (z : ℤ) → literal_of word ≡ Some z → word ≡ signed_decimal z
@@ -124,78 +194,139 @@ module _ (literal_form : (word : List ℕ) (z : ℤ) → literal_of word ≡ Som
   literals-words [] lits e = absurd (cc)
   literals-words (w ∷ ws) lits e = literals-cases w ws lits (is_end w) refl e (literals-words ws)
 
-  same_add : (p q : ℕ) (ls ms : List ℤ) → Add p ls ≡ Add q ms → (p ≡ q) × (ls ≡ ms)
-  same_add p q ls ms e = (cc, cc)
+  -- numbers alone
+  numbers-cases : (v : List ℕ) (vs : List (List ℕ)) (zs : List ℤ) → (or_syntax (number_of v) >>= λ n. (numbers_to_end vs >>= λ ns. Ok (pos n ∷ ns))) ≡ Ok zs → ((ns : List ℤ) → numbers_to_end vs ≡ Ok ns → vs ≡ map signed_decimal ns) → v ∷ vs ≡ map signed_decimal zs
+  numbers-cases v vs zs e later =
+      let one = bind-ok (or_syntax (number_of v)) (λ n. numbers_to_end vs >>= λ ns. Ok (pos n ∷ ns)) zs e in
+      let two = bind-ok (numbers_to_end vs) (λ ns. Ok (pos one.0 ∷ ns)) zs one.2 in
+      ap (λ w. w ∷ vs) (number_form v one.0 (or_syntax-ok (number_of v) one.0 one.1)) ∙ ap (λ ws. decimal one.0 ∷ ws) (later two.0 two.1) ∙ ap (map signed_decimal) (same_ok (pos one.0 ∷ two.0) zs two.2)
 
-  adding-words : (ws : List (List ℕ)) (part : ℕ) (lits : List ℤ) → add_of ws ≡ Ok (Add part lits) → ws ≡ decimal part ∷ (map signed_decimal lits ++ codes "0" ∷ [])
-  adding-words [] part lits e = absurd (cc)
-  adding-words (w ∷ ws) part lits e =
-      let one = bind-ok (or_syntax (number_of w)) (λ p. literals_to_end ws >>= λ ls. Ok (Add p ls)) (Add part lits) e in
-      let two = bind-ok (literals_to_end ws) (λ ls. Ok (Add one.0 ls)) (Add part lits) one.2 in
-      let same = same_add one.0 part two.0 lits (same_ok (Add one.0 two.0) (Add part lits) two.2) in
-      ap (λ v. v ∷ ws) (number_form w one.0 (or_syntax-ok (number_of w) one.0 one.1)) ∙ ap (λ p. decimal p ∷ ws) same.0
-      ∙ ap (λ vs. decimal part ∷ vs) (literals-words ws two.0 two.1 ∙ ap (λ ls. map signed_decimal ls ++ codes "0" ∷ []) same.1)
+  numbers-words : (ws : List (List ℕ)) (zs : List ℤ) → numbers_to_end ws ≡ Ok zs → ws ≡ map signed_decimal zs
+  numbers-words [] zs e = ap (map signed_decimal) (same_ok [] zs e)
+  numbers-words (w ∷ ws) zs e = numbers-cases w ws zs e (numbers-words ws)
 
-  -- the words of a command that is an addition
-  add-cases : (w : List ℕ) (ws : List (List ℕ)) (part : ℕ) (lits : List ℤ) (comment add solve : Bool) → bytes_eq w (codes "add") ≡ add
-      → cond comment (Ok Nothing) (cond add (add_of ws) (cond solve (solve_of ws) (Err Syntax))) ≡ Ok (Add part lits) → w ∷ ws ≡ add_words part lits
-  add-cases w ws part lits true add solve is e = absurd (cc)
-  add-cases w ws part lits false true solve is e = ap (λ v. v ∷ ws) ((bytes_eq-Decides w (codes "add")).0 is) ∙ ap (λ vs. codes "add" ∷ vs) (adding-words ws part lits e)
-  add-cases w ws part lits false false true is e = absurd (let no : Add part lits ≡ Solve [] = (solve-words ws (Add part lits) e).0 in cc)
-  add-cases w ws part lits false false false is e = absurd (cc)
+  -- ---- the words of each command
 
-  command-add : (ws : List (List ℕ)) (part : ℕ) (lits : List ℤ) → command_of ws ≡ Ok (Add part lits) → ws ≡ add_words part lits
-  command-add [] part lits e = absurd (cc)
-  command-add (w ∷ ws) part lits e = add-cases w ws part lits (is_comment w) (bytes_eq w (codes "add")) (bytes_eq w (codes "solve")) refl e
+  -- a reading that gives a command by its words
+  add-worded : (ws : List (List ℕ)) (c : Command) → add_of ws ≡ Ok c → Worded c (codes "add" ∷ ws)
+  add-worded [] c e = absurd (cc)
+  add-worded (w ∷ ws) c e =
+      let one = bind-ok (or_syntax (number_of w)) (λ p. literals_to_end ws >>= λ ls. Ok (Add p ls)) c e in
+      let two = bind-ok (literals_to_end ws) (λ ls. Ok (Add one.0 ls)) c one.2 in
+      subst (λ d. Worded d (codes "add" ∷ (w ∷ ws))) (same_ok (Add one.0 two.0) c two.2)
+      (ap (λ v. codes "add" ∷ (v ∷ ws)) (number_form w one.0 (or_syntax-ok (number_of w) one.0 one.1)) ∙ ap (λ vs. codes "add" ∷ (decimal one.0 ∷ vs)) (literals-words ws two.0 two.1))
 
-  adds-solve : (ws : List (List ℕ)) (pairs : List (ℕ × ℤ)) → add_of ws ≡ Ok (Solve pairs) → ⊥
-  adds-solve [] pairs e = absurd (cc)
-  adds-solve (w ∷ ws) pairs e =
-      let one = bind-ok (or_syntax (number_of w)) (λ p. literals_to_end ws >>= λ ls. Ok (Add p ls)) (Solve pairs) e in
-      let two = bind-ok (literals_to_end ws) (λ ls. Ok (Add one.0 ls)) (Solve pairs) one.2 in
-      absurd (let no : Add one.0 two.0 ≡ Solve pairs = same_ok (Add one.0 two.0) (Solve pairs) two.2 in cc)
+  parts-worded : (ws : List (List ℕ)) (c : Command) → parts_of ws ≡ Ok c → Worded c (codes "parts" ∷ ws)
+  parts-worded ws c e =
+      let one = bind-ok (only_word ws) (λ w. or_syntax (number_of w) >>= λ n. Ok (Parts n)) c e in
+      let two = bind-ok (or_syntax (number_of one.0)) (λ n. Ok (Parts n)) c one.2 in
+      subst (λ d. Worded d (codes "parts" ∷ ws)) (same_ok (Parts two.0) c two.2)
+      (ap (λ vs. codes "parts" ∷ vs) (only-ok ws one.0 one.1 ∙ ap (λ v. v ∷ []) (number_form one.0 two.0 (or_syntax-ok (number_of one.0) two.0 two.1))))
 
-  same_solve : (ps qs : List (ℕ × ℤ)) → Solve ps ≡ Solve qs → ps ≡ qs
-  same_solve ps qs e = cc
+  system-worded : (ws : List (List ℕ)) (c : Command) → system_of ws ≡ Ok c → Worded c (codes "system" ∷ ws)
+  system-worded ws c e =
+      let one = bind-ok (only_word ws) (λ w. or_syntax (system_named w) >>= λ s. Ok (System s)) c e in
+      let two = bind-ok (or_syntax (system_named one.0)) (λ s. Ok (System s)) c one.2 in
+      subst (λ d. Worded d (codes "system" ∷ ws)) (same_ok (System two.0) c two.2)
+      (ap (λ vs. codes "system" ∷ vs) (only-ok ws one.0 one.1 ∙ ap (λ v. v ∷ []) (system-form one.0 two.0 (or_syntax-ok (system_named one.0) two.0 two.1))))
 
-  -- and of one that is a solve
-  solve-cases : (w : List ℕ) (ws : List (List ℕ)) (pairs : List (ℕ × ℤ)) (comment add solve : Bool) → bytes_eq w (codes "solve") ≡ solve
-      → cond comment (Ok Nothing) (cond add (add_of ws) (cond solve (solve_of ws) (Err Syntax))) ≡ Ok (Solve pairs) → (pairs ≡ []) × (w ∷ ws ≡ solve_words)
-  solve-cases w ws pairs true add solve is e = absurd (cc)
-  solve-cases w ws pairs false true solve is e = absurd (adds-solve ws pairs e)
-  solve-cases w ws pairs false false true is e =
-      let found = solve-words ws (Solve pairs) e in
-      (same_solve pairs [] found.0, ap (λ v. v ∷ ws) ((bytes_eq-Decides w (codes "solve")).0 is) ∙ ap (λ vs. codes "solve" ∷ vs) found.1)
-  solve-cases w ws pairs false false false is e = absurd (cc)
+  mark-worded : (ws : List (List ℕ)) (c : Command) → mark_of ws ≡ Ok c → Worded c (codes "mark" ∷ ws)
+  mark-worded [] c e = absurd (cc)
+  mark-worded (w ∷ ws) c e =
+      let one = bind-ok (or_syntax (number_of w)) (λ name. only_word ws >>= λ v. (or_syntax (mark_named v) >>= λ m. Ok (Mark name m))) c e in
+      let two = bind-ok (only_word ws) (λ v. or_syntax (mark_named v) >>= λ m. Ok (Mark one.0 m)) c one.2 in
+      let three = bind-ok (or_syntax (mark_named two.0)) (λ m. Ok (Mark one.0 m)) c two.2 in
+      subst (λ d. Worded d (codes "mark" ∷ (w ∷ ws))) (same_ok (Mark one.0 three.0) c three.2)
+      (ap (λ v. codes "mark" ∷ (v ∷ ws)) (number_form w one.0 (or_syntax-ok (number_of w) one.0 one.1))
+      ∙ ap (λ vs. codes "mark" ∷ (decimal one.0 ∷ vs)) (only-ok ws two.0 two.1 ∙ ap (λ v. v ∷ []) (mark-form two.0 three.0 (or_syntax-ok (mark_named two.0) three.0 three.1))))
 
-  command-solve : (ws : List (List ℕ)) (pairs : List (ℕ × ℤ)) → command_of ws ≡ Ok (Solve pairs) → (pairs ≡ []) × (ws ≡ solve_words)
-  command-solve [] pairs e = absurd (cc)
-  command-solve (w ∷ ws) pairs e = solve-cases w ws pairs (is_comment w) (bytes_eq w (codes "add")) (bytes_eq w (codes "solve")) refl e
+  cuts-cases : (w : List ℕ) (ws : List (List ℕ)) (c : Command) (all : Bool) → bytes_eq w (codes "all") ≡ all → cond all (then_nothing ws (Cuts cut.All)) (numbers_to_end (w ∷ ws) >>= λ ns. Ok (Cuts (cut.Chosen ns))) ≡ Ok c → Worded c (codes "cuts" ∷ (w ∷ ws))
+  cuts-cases w ws c true is e =
+      let none = nothing-ok ws (Cuts cut.All) c e in
+      subst (λ d. Worded d (codes "cuts" ∷ (w ∷ ws))) none.1 (ap (λ v. codes "cuts" ∷ (v ∷ ws)) (same_word w (codes "all") is) ∙ ap (λ vs. codes "cuts" ∷ (codes "all" ∷ vs)) none.0)
+  cuts-cases w ws c false is e =
+      let one = bind-ok (numbers_to_end (w ∷ ws)) (λ ns. Ok (Cuts (cut.Chosen ns))) c e in
+      subst (λ d. Worded d (codes "cuts" ∷ (w ∷ ws))) (same_ok (Cuts (cut.Chosen one.0)) c one.2) (ap (λ vs. codes "cuts" ∷ vs) (numbers-words (w ∷ ws) one.0 one.1))
+
+  cuts-worded : (ws : List (List ℕ)) (c : Command) → cuts_of ws ≡ Ok c → Worded c (codes "cuts" ∷ ws)
+  cuts-worded [] c e = absurd (cc)
+  cuts-worded (w ∷ ws) c e = cuts-cases w ws c (bytes_eq w (codes "all")) refl e
+
+  solve-worded : (ws : List (List ℕ)) (c : Command) → solve_of ws ≡ Ok c → Worded c (codes "solve" ∷ ws)
+  solve-worded [] c e = absurd (cc)
+  solve-worded (w ∷ ws) c e =
+      let end = checked-ok (is_end w) (then_nothing ws (Solve [])) Syntax c e in
+      let none = nothing-ok ws (Solve []) c end.1 in
+      subst (λ d. Worded d (codes "solve" ∷ (w ∷ ws))) none.1 (refl, ap (λ v. codes "solve" ∷ (v ∷ ws)) (is_zero_word w end.0) ∙ ap (λ vs. codes "solve" ∷ (codes "0" ∷ vs)) none.0)
+
+  -- one word is tested after the other
+  tested : (name w : List ℕ) (ws : List (List ℕ)) (here rest : Result Command Refusal) (c : Command) (b : Bool) → bytes_eq w name ≡ b → cond b here rest ≡ Ok c → (here ≡ Ok c → Worded c (name ∷ ws)) → (rest ≡ Ok c → Worded c (w ∷ ws)) → Worded c (w ∷ ws)
+  tested name w ws here rest c true is e own later = subst (λ v. Worded c (v ∷ ws)) (sym (same_word w name is)) (own e)
+  tested name w ws here rest c false is e own later = later e
+
+  commented : (c : Command) (ws : List (List ℕ)) (b : Bool) (rest : Result Command Refusal) → cond b (Ok Nothing) rest ≡ Ok c → (rest ≡ Ok c → Worded c ws) → Worded c ws
+  commented c ws true rest e later = subst (λ d. Worded d ws) (same_ok Nothing c e) tt
+  commented c ws false rest e later = later e
+
+  command-worded : (ws : List (List ℕ)) (c : Command) → command_of ws ≡ Ok c → Worded c ws
+  command-worded [] c e = subst (λ d. Worded d []) (same_ok Nothing c e) tt
+  command-worded (w ∷ ws) c e =
+      commented c (w ∷ ws) (is_comment w) _ e
+      (λ e. tested (codes "add") w ws (add_of ws) _ c (bytes_eq w (codes "add")) refl e (add-worded ws c)
+      (λ e. tested (codes "parts") w ws (parts_of ws) _ c (bytes_eq w (codes "parts")) refl e (parts-worded ws c)
+      (λ e. tested (codes "system") w ws (system_of ws) _ c (bytes_eq w (codes "system")) refl e (system-worded ws c)
+      (λ e. tested (codes "mark") w ws (mark_of ws) _ c (bytes_eq w (codes "mark")) refl e (mark-worded ws c)
+      (λ e. tested (codes "cuts") w ws (cuts_of ws) _ c (bytes_eq w (codes "cuts")) refl e (cuts-worded ws c)
+      (λ e. tested (codes "solve") w ws (solve_of ws) _ c (bytes_eq w (codes "solve")) refl e (solve-worded ws c)
+      (λ e. absurd (cc))))))))
+
+  -- the words of a line that is read as a command
+  worded : (state : State) (bytes : List ℕ) (c : Command) → reading state (line.Text bytes) ≡ Ok c → Worded c (words bytes)
+  worded state bytes c e = command-worded (words bytes) c (parsed-text bytes c (read-ok state (line.Text bytes) c e).0).1
 
   -- ---- lines
 
-  in_range : (parts part : ℕ) (lits : List ℤ) → admitted parts (Add part lits) ≡ Ok tt → AreInRange parts part lits
-  in_range parts part lits e =
-      let one = refused-ok (list_all (is_within parts) (part ∷ [])) (cond (not (list_all (is_within variable_limit) (map unsigned_abs lits))) (Err Variable) (Ok tt)) Range tt e in
-      let two = refused-ok (list_all (is_within variable_limit) (map unsigned_abs lits)) (Ok tt) Variable tt one.1 in
-      let own : is_within parts part ≡ true = list_all-member (is_within parts) (part ∷ []) part (Contains-front part []) one.0 in
-      let both = and_parts _ _ own in (
-        leb-true 1 part both.0,
-        leb-true part parts both.1,
-        λ z here.
-            let each = and_parts _ _ (list_all-member (is_within variable_limit) (map unsigned_abs lits) (unsigned_abs z) (Contains-image unsigned_abs lits z here) two.0) in
-            (leb-true 1 (unsigned_abs z) each.0, leb-true (unsigned_abs z) 2147483647 each.1),
+  pub line_that_adds : (state : State) (bytes : List ℕ) (part : ℕ) (lits : List ℤ) → reading state (line.Text bytes) ≡ Ok (Add part lits) → (words bytes ≡ add_words part lits) × AreInRange state.settings.parts part lits
+  line_that_adds state bytes part lits e =
+      let tests = admitted-tests state (Add part lits) (read-ok state (line.Text bytes) (Add part lits) e).1 in (
+        worded state bytes (Add part lits) e,
+        (
+          leb-true part state.settings.parts tests.1,
+          λ z here. number_range (unsigned_abs z) (list_all-member (is_within variable_limit) (map unsigned_abs lits) (unsigned_abs z) (Contains-image unsigned_abs lits z here) tests.2),
+        ),
       )
 
-  pub line_that_adds : (state : State) (bytes : List ℕ) (part : ℕ) (lits : List ℤ) → reading state (line.Text bytes) ≡ Ok (Add part lits) → (words bytes ≡ add_words part lits) × AreInRange state.parts part lits
-  line_that_adds state bytes part lits e =
-      let read = read-ok state (line.Text bytes) (Add part lits) e in
-      (command-add (words bytes) part lits (parsed-text bytes (Add part lits) read.0).1, in_range state.parts part lits read.1)
+  pub line_that_divides : (state : State) (bytes : List ℕ) (n : ℕ) → reading state (line.Text bytes) ≡ Ok (Parts n) → (words bytes ≡ parts_words n) × (1 ≤ n) × (n ≤ 4096) × (state.accepted ≡ [])
+  line_that_divides state bytes n e =
+      let tests = admitted-tests state (Parts n) (read-ok state (line.Text bytes) (Parts n) e).1 in
+      let both = and_parts _ _ tests.1 in
+      (worded state bytes (Parts n) e, leb-true 1 n both.0, leb-true n 4096 both.1, no_clause state.accepted tests.0)
+
+  pub line_that_names_a_system : (state : State) (bytes : List ℕ) (s : SystemWord) → reading state (line.Text bytes) ≡ Ok (System s) → words bytes ≡ system_words s
+  line_that_names_a_system state bytes s e = worded state bytes (System s) e
+
+  pub line_that_marks : (state : State) (bytes : List ℕ) (name : ℕ) (m : MarkWord) → reading state (line.Text bytes) ≡ Ok (Mark name m) → (words bytes ≡ mark_words name m) × (1 ≤ name) × (name ≤ 2147483647)
+  line_that_marks state bytes name m e =
+      let tests = admitted-tests state (Mark name m) (read-ok state (line.Text bytes) (Mark name m) e).1 in
+      let range = number_range name (and_parts _ _ tests.2).0 in
+      (worded state bytes (Mark name m) e, range.0, range.1)
+
+  pub line_of_all_cuts : (state : State) (bytes : List ℕ) → reading state (line.Text bytes) ≡ Ok (Cuts cut.All) → words bytes ≡ all_cuts_words
+  line_of_all_cuts state bytes e = worded state bytes (Cuts cut.All) e
+
+  pub line_of_cuts : (state : State) (bytes : List ℕ) (zs : List ℤ) → reading state (line.Text bytes) ≡ Ok (Cuts (cut.Chosen zs)) → (words bytes ≡ cuts_words zs) × AreRisingCuts state.settings.parts zs
+  line_of_cuts state bytes zs e =
+      let tests = admitted-tests state (Cuts (cut.Chosen zs)) (read-ok state (line.Text bytes) (Cuts (cut.Chosen zs)) e).1 in (
+        worded state bytes (Cuts (cut.Chosen zs)) e,
+        (
+          as_read state.settings.parts (any_clause state.accepted) (line.Text bytes) (Cuts (cut.Chosen zs)) e,
+          rising-cuts state.settings.parts zs tests.3,
+          within-cuts state.settings.parts zs tests.3,
+        ),
+      )
 
   pub line_that_solves : (state : State) (bytes : List ℕ) (pairs : List (ℕ × ℤ)) → reading state (line.Text bytes) ≡ Ok (Solve pairs) → (pairs ≡ []) × (words bytes ≡ solve_words)
-  line_that_solves state bytes pairs e =
-      let read = read-ok state (line.Text bytes) (Solve pairs) e in
-      command-solve (words bytes) pairs (parsed-text bytes (Solve pairs) read.0).1
+  line_that_solves state bytes pairs e = worded state bytes (Solve pairs) e
 
 pub overlong_line : (state : State) → reading state line.Overlong ≡ Err Overlong
 overlong_line state = refl

@@ -13,7 +13,7 @@ use Rattle.craig_spec.specs.PartialInterpolant.{Labelling, partial_values}
 use Rattle.craig_spec.specs.Truth.{Assignment, IsUnsatisfiable, clause_value, literal_value}
 use Rattle.craig_spec.proofs.ClauseLemmas.{clause_value-find, clause_value-member, clause_value-same}
 use Rattle.craig_spec.proofs.LiteralLemmas.{same_or_not, literal_value-negation}
-use Rattle.craig_spec.proofs.MemberLemmas.{Contains-cases, Contains-from_image, Contains-front, Contains-image, Contains-later, list_all-member, slice_get-below}
+use Rattle.craig_spec.proofs.MemberLemmas.{Contains-cases, Contains-from_image, Contains-front, Contains-image, Contains-later, list_all-member, slice_get-below, slice_get-front}
 use Rattle.craig_spec.proofs.ToldLemmas.{clause_told-find}
 use Rattle.craig_itp.specs.Labellings.{MeetsRules}
 use Rattle.craig_top.specs.DrawnSteps.{AreAlong, AreByTheRules, AreInOrder, AreNeededOnes, ClashOnlyOn, DerivedAreResolved, DerivedFollow, EndInTheEmptyClause, FollowsFrom, HasAllBut, HasNoOther, IdsRise, IsEmptyOne, IsResolvedAt, OriginalsAreClauses, OriginalsAreNormal}
@@ -22,7 +22,6 @@ use Rattle.craig_top.specs.Named.{named_step}
 use Rattle.craig_top.specs.GivenState.{State}
 use Rattle.craig_top.proofs.ListedLiteralsLemmas.{not_both}
 use Rattle.craig_top.proofs.NotedLemmas.{IsOriginal-from, same_part}
-use Rattle.craig_top.proofs.PutRepliesLemmas.{slice_get-front}
 use Rattle.craig_spec.specs.Cut.{PartLiteral}
 
 -- ---- resolvents
@@ -176,16 +175,16 @@ module _ (clauses : List PartClause) (steps : List ToldStep) (root : ℕ) (refut
 
 -- ---- values
 
-pub by_the_rules : (clauses : List PartClause) (parts : ℕ) (c : Circuit) (systems : List MarkedLiterals) (drawn : DrawnFromOneRefutation clauses parts c systems)
+pub by_the_rules : (clauses : List PartClause) (parts : ℕ) (cuts : List ℕ) (c : Circuit) (systems : List MarkedLiterals) (drawn : DrawnFromOneRefutation clauses parts cuts c systems)
     → ((l : Labelling) (s : Assignment) (t : Told) (value : ℕ → Bool) → IsTold t → MeetsRules l s t.steps value → (step : ToldStep) → Contains t.steps step → value step.id ≡ partial_values l s t.steps step.id)
-    → (system : MarkedLiterals) → Contains systems system → AreByTheRules clauses parts drawn.steps drawn.root c system.marks system.literals
-by_the_rules clauses parts c systems drawn unique system here cut l low high is s value meets =
+    → (system : MarkedLiterals) → Contains systems system → AreByTheRules clauses parts cuts drawn.steps drawn.root c system.marks system.literals
+by_the_rules clauses parts cuts c systems drawn unique system here cut l low high at s value meets =
     let refutes = drawn.refutes in
     let label : Labelling = occurrence_labelling clauses cut system.marks in
-    let given : HaveRootValues clauses parts drawn.steps drawn.root c system = All-contains (HaveRootValues clauses parts drawn.steps drawn.root c) systems system drawn.values here in
+    let given : HaveRootValues clauses parts cuts drawn.steps drawn.root c system = All-contains (HaveRootValues clauses parts cuts drawn.steps drawn.root c) systems system drawn.values here in
     let last_here : Contains drawn.steps refutes.last = subst (λ rs. Contains rs refutes.last) (sym refutes.ends) (Contains-append_right refutes.before (refutes.last ∷ []) refutes.last (Contains-front refutes.last [])) in
     let at_last : value (refutes.last).id ≡ partial_values label s drawn.steps (refutes.last).id = unique label s (record { greatest = Some drawn.root; steps = drawn.steps }) value (told_are clauses drawn.steps drawn.root refutes) meets refutes.last last_here in
-    given cut l low high is s ∙ sym (subst (λ (id : ℕ). value id ≡ partial_values label s drawn.steps id) refutes.root_is at_last)
+    given at.0 cut l (record { cut_is = at.1; literal_is = at.2 }) low high s ∙ sym (subst (λ (id : ℕ). value id ≡ partial_values label s drawn.steps id) refutes.root_is at_last)
 
 -- ---- the last root
 
@@ -250,9 +249,9 @@ no_images f (x ∷ xs) e = cc
 
 pub root_is_empty : (names : List ℕ) (kept : List ToldStep) (last : Option ℕ) (state : State) (assumptions : List PartLiteral) (text : List ℕ) → IsRefutationBy names kept last state assumptions text → IsEmptyOne kept last
 root_is_empty names kept last state assumptions text (reply, of_last) =
-    let refutes = reply.drawn.refutes in
-    let here : Contains reply.drawn.steps refutes.last = subst (λ rs. Contains rs refutes.last) (sym refutes.ends) (Contains-append_right refutes.before (refutes.last ∷ []) refutes.last (Contains-front refutes.last [])) in
-    let found = (needed_ones names kept last reply.drawn.steps reply.drawn.root of_last refutes.last).0 here in
+    let refutes = reply.gives.interpolants.drawn.refutes in
+    let here : Contains reply.gives.interpolants.drawn.steps refutes.last = subst (λ rs. Contains rs refutes.last) (sym refutes.ends) (Contains-append_right refutes.before (refutes.last ∷ []) refutes.last (Contains-front refutes.last [])) in
+    let found = (needed_ones names kept last reply.gives.interpolants.drawn.steps reply.gives.interpolants.drawn.root of_last refutes.last).0 here in
     let k : ToldStep = found.0 in
-    let id : k.id ≡ reply.drawn.root = sym (ap (λ (t : ToldStep). t.id) found.3) ∙ refutes.root_is in
+    let id : k.id ≡ reply.gives.interpolants.drawn.root = sym (ap (λ (t : ToldStep). t.id) found.3) ∙ refutes.root_is in
     (k, found.1, of_last.is_last ∙ ap Some (sym id), no_images _ k.literals (sym (ap (λ (t : ToldStep). t.literals) found.3) ∙ refutes.empty))

@@ -2,6 +2,7 @@ pub mod AppendedLemmas
 pub mod ValueLemmas
 pub mod NamingLemmas
 pub mod BelowLemmas
+pub mod MarkLemmas
 pub mod ModelLemmas
 pub mod ResultLemmas
 pub mod DenseLemmas
@@ -16,7 +17,8 @@ pub mod RefutationLemmas
 pub mod GrowthLemmas
 pub mod SidesLemmas
 pub mod StoredLemmas
-pub mod UnassumingLemmas
+pub mod AsReadLemmas
+pub mod RisingCutsLemmas
 pub mod TranscriptLemmas
 pub mod FaultsLemmas
 pub mod PutsLemmas
@@ -36,3 +38,6 @@ pub mod DrawnStepsLemmas
 pub mod ReplyContentsLemmas
 pub mod ScriptLinesLemmas
 pub mod CommandLinesLemmas
+pub mod SystemsLemmas
+pub mod WrittenOutputsLemmas
+pub mod StrengthLemmas

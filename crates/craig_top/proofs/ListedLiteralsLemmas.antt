@@ -1,8 +1,7 @@
 -- What the literals of a model reply list.
 use Rattle.std.proofs.Common.{◌≡◌, ◌∙◌, sym, ap, subst, refl, ℕ, ◌+◌, ◌<◌, Bool, true, false, not, List, [], ◌∷◌, length, map, get_or, Contains, Some, slice_get, arith, inl, inr, eqb-true, eq-eqb}
-use Rattle.std.specs.List.{list_all}
 use Rattle.std.specs.List.Sorted.{IsStrictlyIncreasing}
-use Rattle.std.proofs.lemmas.Bool.{and_from, or_cases, or_left, or_right, cases_order}
+use Rattle.std.proofs.lemmas.Bool.{or_cases, or_left, or_right, cases_order}
 use Rattle.std.proofs.lemmas.List.{get_or-map, length-map}
 use Rattle.std.proofs.lemmas.List.Kept.{AllPairs-from_increasing}
 use Rattle.std.proofs.lemmas.Option.{get_or_from_slice_get, slice_get-get_or}
@@ -10,14 +9,9 @@ use Rattle.craig_spec.specs.Literal.{Literal, Clause}
 use Rattle.craig_spec.specs.Truth.{Assignment, IsModel, clause_value, literal_value, variable_value}
 use Rattle.craig_spec.specs.Occurs.{occurs_in_clause}
 use Rattle.craig_spec.proofs.ClauseLemmas.{clause_value-find, clause_value-member, occurs_in_clause-find, occurs_in_clause-member}
-use Rattle.craig_spec.proofs.MemberLemmas.{Contains-cases, Contains-front, Contains-later, list_all-member, list_any-find, list_any-member, slice_get-below, slice_get-to_map}
+use Rattle.craig_spec.proofs.MemberLemmas.{Contains-cases, Contains-front, Contains-later, list_all-member, list_all-members, list_any-find, list_any-member, slice_get-below, slice_get-to_map}
 use Rattle.craig_top.specs.ListedLiterals.{EachHasOne, HasVariable, ListsEachVariable, MakesTrue, SomeHasVariable, VariablesRise}
 use Rattle.craig_top.specs.ModelReply.{IsModelReply, positives}
-
--- all pass where each member does
-list_all-from_members : {A : Type 0} (p : A → Bool) (xs : List A) → ((x : A) → Contains xs x → p x ≡ true) → list_all p xs ≡ true
-list_all-from_members p [] each = refl
-list_all-from_members p (x ∷ xs) each = and_from _ _ (each x (Contains-front x xs)) (list_all-from_members p xs (λ y h. each y (Contains-later x xs y h)))
 
 same_literal : (l m : Literal) → l.var ≡ m.var → l.negated ≡ m.negated → l ≡ m
 same_literal l m v s = λ i. record { var = v i; negated = s i }
@@ -115,7 +109,7 @@ each_has_one clauses literals reply c member =
     (l.0, l.1, listed literals (l.0).var (l.0).negated has l.2)
 
 pub makes_model : (clauses : List Clause) (literals : List Literal) → IsModelReply clauses literals → (s : Assignment) → MakesTrue s literals → IsModel s clauses
-makes_model clauses literals reply s holds = list_all-from_members (clause_value s) clauses (λ c member.
+makes_model clauses literals reply s holds = list_all-members (clause_value s) clauses (λ c member.
     let l = each_has_one clauses literals reply c member in
     clause_value-member s c l.0 l.1 (holds l.0 l.2))
 

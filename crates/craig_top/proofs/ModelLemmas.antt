@@ -15,7 +15,8 @@ use Rattle.craig_spec.specs.Occurs.{occurs, occurs_in_clause}
 use Rattle.craig_top.specs.Values.{all_hold, AreOver}
 use Rattle.craig_top.specs.Naming.{named_clause, model_below}
 use Rattle.craig_top.specs.ModelReply.{IsModelReply, positives}
-use Rattle.craig_top.proofs.BelowLemmas.{any_below, any_below-some, any_below-find, any_below-one, any_below-none, same_answer}
+use Rattle.craig_top.proofs.BelowLemmas.{any_below, any_below-some, any_below-find, any_below-one, any_below-none}
+use Rattle.craig_label.proofs.RangeLemmas.{same_answer}
 use Rattle.craig_top.proofs.ValueLemmas.{list_any-map}
 use Rattle.craig_top.proofs.NamingLemmas.{agree-clauses, occurs-below, occurs-named, occurs-origin}
 

@@ -5,12 +5,13 @@ use Rattle.std.proofs.lemmas.List.Elements.{Contains-get_or}
 use Rattle.craig_spec.specs.Literal.{Literal, Clause, negation}
 use Rattle.craig_spec.specs.Chain.{Origin, Original, Derived, ToldStep}
 use Rattle.craig_spec.specs.Needed.{IsOriginal}
-use Rattle.craig_spec.specs.Cut.{PartClause}
+use Rattle.craig_spec.specs.Cut.{PartClause, PartLiteral, with_units}
 use Rattle.craig_spec.specs.DrawnFromOneRefutation.{IsOriginalOf, IsRefutationOf}
 use Rattle.craig_base.specs.declared.script_part.Part.{Part}
 use Rattle.craig_top.specs.Named.{named_origin, named_step, named_part_clause, bare_clauses, AreDifferent, AreClausesOver}
-use Rattle.craig_top.specs.Naming.{named_literal, named_clause, written}
-use Rattle.craig_top.specs.Sides.{parted}
+use Rattle.craig_search.specs.Verdict.{Assumptions}
+use Rattle.craig_top.specs.Naming.{named_assumptions, named_literal, named_clause, written}
+use Rattle.craig_top.specs.Sides.{parted, with_assumed}
 use Rattle.craig_top.specs.Values.{IsOver, AreOver}
 use Rattle.craig_top.proofs.OverLemmas.{IsOver-contains, IsRefutationOf-over}
 use Rattle.craig_spec.proofs.MemberLemmas.{Contains-image, Contains-from_image}
@@ -30,6 +31,20 @@ parted-named names (a ∷ accepted) = ap (λ cs. record { part = a.0.0; clause =
 pub parted-bare : (accepted : List (Part × Clause)) → bare_clauses (parted accepted) ≡ map (λ a. a.1) accepted
 parted-bare [] = refl
 parted-bare (a ∷ accepted) = ap (λ cs. a.1 ∷ cs) (parted-bare accepted)
+
+-- with units they are those with the named units
+written-units : (names : List ℕ) (assumptions : Assumptions) → written names (with_assumed [] assumptions) ≡ with_units [] (named_assumptions names assumptions)
+written-units names [] = refl
+written-units names (a ∷ assumptions) = ap (λ cs. record { part = a.0.0; clause = named_literal names a.1 ∷ [] } ∷ cs) (written-units names assumptions)
+
+pub written-assumed : (names : List ℕ) (accepted : List (Part × Clause)) (assumptions : Assumptions) → written names (with_assumed accepted assumptions) ≡ with_units (written names accepted) (named_assumptions names assumptions)
+written-assumed names [] assumptions = written-units names assumptions
+written-assumed names (a ∷ accepted) assumptions = ap (λ cs. record { part = a.0.0; clause = named_clause names a.1 } ∷ cs) (written-assumed names accepted assumptions)
+
+-- the literals of named assumptions are the named ones
+pub literals-named : (names : List ℕ) (assumptions : Assumptions) → map (λ (f : PartLiteral). f.literal) (named_assumptions names assumptions) ≡ named_clause names (map (λ (a : Part × Literal). a.1) assumptions)
+literals-named names [] = refl
+literals-named names (a ∷ assumptions) = ap (λ ls. named_literal names a.1 ∷ ls) (literals-named names assumptions)
 
 module _ (names : List ℕ) (differ : AreDifferent names) where
   -- no literal stands twice in the named clause

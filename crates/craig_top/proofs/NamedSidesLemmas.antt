@@ -1,9 +1,9 @@
 -- Which variables occur in clauses that are named anew, and the sides of a cut.
-use Rattle.std.proofs.Common.{◌≡◌, ℕ, ◌<◌, Bool, true, false, cond, List, [], ◌∷◌, length, map, refl, ap, sym, ◌∙◌, nat_eq, nat_le, nat_lt, slice_index, eq-eqb, ne_eqb, ltb-true, inl, inr, filter}
+use Rattle.std.proofs.Common.{◌≡◌, ℕ, ◌<◌, Bool, true, false, cond, List, [], ◌∷◌, length, map, refl, ap, sym, ◌∙◌, nat_eq, nat_lt, slice_index, eq-eqb, ne_eqb, ltb-true, inl, inr, filter}
 use Rattle.std.proofs.lemmas.Bool.{and_parts, cases_eq}
 use Rattle.craig_spec.specs.Literal.{Clause}
 use Rattle.craig_spec.specs.Occurs.{occurs_in_clause, occurs}
-use Rattle.craig_spec.specs.Cut.{PartClause, clauses_within, side_a, side_b}
+use Rattle.craig_spec.specs.Cut.{PartClause, clauses_within, is_on_side_a, is_on_side_b, side_a, side_b}
 use Rattle.craig_top.specs.Named.{named_part_clause, bare_clauses, AreDifferent}
 use Rattle.craig_top.specs.Naming.{named_clause}
 use Rattle.craig_top.specs.Values.{IsOver, AreOver}
@@ -43,10 +43,10 @@ clauses_within-named test names (c ∷ clauses) =
 
 -- the sides and the parts of named clauses
 pub side_a-named : (names : List ℕ) (clauses : List PartClause) (cut : ℕ) → side_a (map (named_part_clause names) clauses) cut ≡ map (named_clause names) (side_a clauses cut)
-side_a-named names clauses cut = clauses_within-named (λ part. nat_le part cut) names clauses
+side_a-named names clauses cut = clauses_within-named (is_on_side_a cut) names clauses
 
 pub side_b-named : (names : List ℕ) (clauses : List PartClause) (cut : ℕ) → side_b (map (named_part_clause names) clauses) cut ≡ map (named_clause names) (side_b clauses cut)
-side_b-named names clauses cut = clauses_within-named (λ part. nat_lt cut part) names clauses
+side_b-named names clauses cut = clauses_within-named (is_on_side_b cut) names clauses
 
 module _ (names : List ℕ) (differ : AreDifferent names) (clauses : List PartClause) (over : AreOver (length names) (bare_clauses clauses)) where
   -- a name occurs in the clauses of some parts where its variable does

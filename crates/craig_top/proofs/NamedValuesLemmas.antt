@@ -21,7 +21,7 @@ list_all-kept p true l c = refl
 list_all-kept p false l c = refl
 
 module _ (names : List ℕ) (high low : Labelling) (s dense : Assignment)
-    (sides : (part : ℕ) → high.on_side_a part ≡ low.on_side_a part)
+    (sides : (part : ℕ) → high.is_leaf_of_a part ≡ low.is_leaf_of_a part)
     (labels : (x : ℕ) → x < length names → high.label (slice_index names x) ≡ low.label x)
     (values : (x : ℕ) → x < length names → variable_value dense x ≡ variable_value s (slice_index names x)) where
   -- a named literal has the value of the literal

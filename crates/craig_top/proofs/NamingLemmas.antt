@@ -1,6 +1,8 @@
 -- Dense clauses and values, and the clauses and assignments of the script that they stand for.
-use Rattle.std.proofs.Common.{get_or, sym, ℕ, ◌+◌, ◌<◌, ◌≡◌, List, [], ◌∷◌, ◌++◌, arith, refl, ap, Bool, true, false, not, map, cond, nat_lt, nat_eq, inl, inr, Some, slice_get, add-one, append-nil}
+use Rattle.std.proofs.Common.{get_or, length, slice_index, take, ◌∙◌, sym, ℕ, ◌+◌, ◌<◌, ◌≡◌, List, [], ◌∷◌, ◌++◌, arith, refl, ap, Bool, true, false, not, map, cond, nat_lt, nat_eq, inl, inr, Some, slice_get, add-one, append-nil}
+use Rattle.std.proofs.lemmas.List.{map-append, take_more}
 use Rattle.std.proofs.lemmas.Option.{get_or_from_slice_get}
+use Rattle.craig_base.specs.declared.script_part.Part.{Part}
 use Rattle.std.proofs.lemmas.Bool.{and_parts, or_left, or_right, or_cases, eqb-true, eq-eqb, ltb-true}
 use Rattle.std.specs.List.{list_any, list_all}
 use Rattle.craig_spec.specs.Literal.{Literal, Clause}
@@ -41,6 +43,20 @@ module _ (names : List ℕ) (values : List Bool) (s : Assignment) where
       let here : list_any (value_at values) c ≡ clause_value s (named_clause names c) = agree-clause c (λ x h. agree x (or_left _ _ h)) in
       let rest : all_hold values cs ≡ list_all (clause_value s) (map (named_clause names) cs) = agree-clauses cs (λ x h. agree x (or_right _ _ h)) in
       rw (here, rest) refl
+
+-- a literal with the name of its variable is the named one
+pub named_literal-from : (names : List ℕ) (l : Literal) (variable name : ℕ) → variable ≡ l.var → slice_get names variable ≡ Some name → record { var = name; negated = l.negated } ≡ named_literal names l
+named_literal-from names l variable name is at = ap (λ x. record { var = x; negated = l.negated }) (sym (get_or_from_slice_get names variable name 0 at) ∙ ap (slice_index names) is)
+
+-- one literal more is named
+pub named_clause-more : (names : List ℕ) (assumptions : List (Part × Literal)) (i : ℕ) (item : Part × Literal) (before pushed : Clause) (l : Literal) → before ≡ named_clause names (map (λ (a : Part × Literal). a.1) (take i assumptions))
+    → i < length assumptions → item ≡ get_or assumptions i item → l ≡ named_literal names item.1 → pushed ≡ before ++ l ∷ [] → pushed ≡ named_clause names (map (λ (a : Part × Literal). a.1) (take (i + 1) assumptions))
+named_clause-more names assumptions i item before pushed l so within is named push =
+    push ∙ ap (λ m. before ++ m ∷ []) named ∙ ap (λ ms. ms ++ named_literal names item.1 ∷ []) so
+    ∙ ap (λ (a : Part × Literal). named_clause names (map (λ (b : Part × Literal). b.1) (take i assumptions)) ++ named_literal names a.1 ∷ []) is
+    ∙ sym (ap (λ (xs : List (Part × Literal)). named_clause names (map (λ (b : Part × Literal). b.1) xs)) (take_more assumptions i item within)
+    ∙ ap (named_clause names) (map-append (λ (b : Part × Literal). b.1) (take i assumptions) (get_or assumptions i item ∷ []))
+    ∙ map-append (named_literal names) (map (λ (b : Part × Literal). b.1) (take i assumptions)) ((get_or assumptions i item).1 ∷ []))
 
 -- a variable that occurs is below the bound
 pub occurs_in_clause-below : (n x : ℕ) (c : Clause) → IsOver n c → occurs_in_clause x c ≡ true → x < n

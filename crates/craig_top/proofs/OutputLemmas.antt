@@ -1,172 +1,186 @@
--- The outputs of the circuit of the cuts, from the edges to what the text is read back as.
-use Rattle.std.proofs.Common.{◌≡◌, ◌∙◌, sym, ap, subst, refl, ℕ, zero, suc, ◌+◌, ◌<◌, Bool, true, false, cond, List, [], ◌∷◌, ◌++◌, length, map, get_or, take, decimal, All, Contains, Option, Some, None, option_map, slice_get, slice_index, arith, length-take-le, Result, Ok, Err, IfOk}
-use Rattle.std.specs.List.{range_with_len}
+-- The outputs of the circuit of the written systems, from the edges to what the text is read back as.
+use Rattle.std.proofs.Common.{◌≡◌, ◌∙◌, sym, ap, subst, refl, ℕ, zero, suc, ◌+◌, ◌<◌, ◌≤◌, Bool, true, false, cond, List, [], ◌∷◌, ◌++◌, length, map, get_or, take, All, Contains, Option, Some, slice_get, slice_index, arith, length-take-le, append_assoc, take_all}
 use Rattle.std.proofs.lemmas.List.{length-map, take_more}
 use Rattle.std.proofs.lemmas.Option.{same_Some}
 use Rattle.craig_spec.specs.Truth.{Assignment}
 use Rattle.craig_spec.specs.Circuit.{Circuit, Output, circuit_cone, circuit_value}
-use Rattle.craig_spec.specs.Chain.{ToldStep}
-use Rattle.craig_spec.specs.PartialInterpolant.{AB}
-use Rattle.craig_label.specs.Sides.{SidesView}
 use Rattle.craig_aig.specs.Cones.{cone}
-use Rattle.craig_aig.specs.Conjunctions.{constant_edge}
 use Rattle.craig_aig.specs.Edges.{Edge}
 use Rattle.craig_aig.specs.Values.{edge_value}
 use Rattle.craig_aig.specs.declared.node.Node.{Node}
 use Rattle.craig_aiger.specs.Layouts.{Layout, HasFunctions, IsLayout, circuit_of, dense_assignment, edge_literal}
 use Rattle.craig_aiger.specs.OutNames.{name_text}
 use Rattle.craig_aiger.specs.RoundTrip.{SameCircuit}
+use Rattle.craig_aiger.specs.declared.family.Family.{Family}
 use Rattle.craig_aiger.specs.declared.out_name.OutName.{OutName}
-use Rattle.craig_itp.specs.Interpolants.{AreInterpolants}
-use Rattle.craig_top.specs.CutLayout.{IsCutLayout, cut_outputs_from}
-use Rattle.craig_top.specs.RefutationReply.{output_literals, cut_names}
+use Rattle.craig_top.specs.Blocks.{printed_output}
+use Rattle.craig_top.specs.CutLayout.{edge_outputs}
+use Rattle.craig_top.specs.RefutationReply.{outputs_at}
 use Rattle.craig_spec.proofs.MemberLemmas.{Contains-from_slice_get, slice_get-from_map, slice_get-to_map, slice_get-within, slice_get-below}
 
 -- ---- outputs of edges
 
 -- the output of a cut
-abbrev pub cut_output : ℕ → Edge → (OutName × Edge)
-cut_output cut e = (record { family = None; cut = cut }, e)
+abbrev pub cut_output : Option Family → ℕ → Edge → (OutName × Edge)
+cut_output family cut e = (record { family = family; cut = cut }, e)
 
 -- one edge more
-pub cut_outputs_from-push : (cut : ℕ) (edges : List Edge) (e : Edge) → cut_outputs_from cut (edges ++ e ∷ []) ≡ cut_outputs_from cut edges ++ cut_output (cut + length edges) e ∷ []
-cut_outputs_from-push cut [] e = let same : cut ≡ cut + 0 = omega arith in ap (λ n. cut_output n e ∷ []) same
-cut_outputs_from-push cut (d ∷ edges) e =
-    let same : cut + 1 + length edges ≡ cut + suc (length edges) = omega arith in
-    ap (λ os. cut_output cut d ∷ os) (cut_outputs_from-push (cut + 1) edges e ∙ ap (λ n. cut_outputs_from (cut + 1) edges ++ cut_output n e ∷ []) same)
+edge_outputs-push : (family : Option Family) (cuts : List ℕ) (edges : List Edge) (cut : ℕ) (e : Edge) → length edges ≡ length cuts
+    → edge_outputs family (cuts ++ cut ∷ []) (edges ++ e ∷ []) ≡ edge_outputs family cuts edges ++ cut_output family cut e ∷ []
+edge_outputs-push family [] [] cut e same = refl
+edge_outputs-push family [] (d ∷ edges) cut e same = absurd (omega (arith, same))
+edge_outputs-push family (k ∷ cuts) [] cut e same = absurd (omega (arith, same))
+edge_outputs-push family (k ∷ cuts) (d ∷ edges) cut e same = ap (λ os. cut_output family k d ∷ os) (edge_outputs-push family cuts edges cut e (omega (arith, same)))
 
 -- the edges up to one place more
-pub cut_outputs_from-more : (edges : List Edge) (i : ℕ) (e : Edge) (items pushed : List (OutName × Edge)) → i < length edges → items ≡ cut_outputs_from 0 (take i edges) → pushed ≡ items ++ cut_output i (get_or edges i e) ∷ [] → pushed ≡ cut_outputs_from 0 (take (i + 1) edges)
-cut_outputs_from-more edges i e items pushed within before push =
-    let at : 0 + length (take i edges) ≡ i = omega (arith, length-take-le i edges (omega (arith, within))) in
-    push ∙ ap (λ os. os ++ cut_output i (get_or edges i e) ∷ []) before
-    ∙ sym (ap (cut_outputs_from 0) (take_more edges i e within) ∙ cut_outputs_from-push 0 (take i edges) (get_or edges i e) ∙ ap (λ n. cut_outputs_from 0 (take i edges) ++ cut_output n (get_or edges i e) ∷ []) at)
+pub edge_outputs-more : (family : Option Family) (cuts : List ℕ) (edges : List Edge) (i : ℕ) (e : Edge) → i < length cuts → i < length edges
+    → edge_outputs family (take (i + 1) cuts) (take (i + 1) edges) ≡ edge_outputs family (take i cuts) (take i edges) ++ cut_output family (get_or cuts i 0) (get_or edges i e) ∷ []
+edge_outputs-more family cuts edges i e within inside =
+    ap (λ ks. edge_outputs family ks (take (i + 1) edges)) (take_more cuts i 0 within) ∙ ap (edge_outputs family (take i cuts ++ get_or cuts i 0 ∷ [])) (take_more edges i e inside)
+    ∙ edge_outputs-push family (take i cuts) (take i edges) (get_or cuts i 0) (get_or edges i e) (length-take-le i edges (omega (arith, inside)) ∙ sym (length-take-le i cuts (omega (arith, within))))
+
+-- a push of the output of the next edge
+pub pushed_more : (family : Option Family) (cuts : List ℕ) (edges : List Edge) (i cut : ℕ) (e : Edge) (begun before later : List (OutName × Edge)) → i < length cuts → length edges ≡ length cuts → cut ≡ get_or cuts i 0 → e ≡ get_or edges i e
+    → before ≡ begun ++ edge_outputs family (take i cuts) (take i edges) → later ≡ before ++ (record { family = family; cut = cut }, e) ∷ [] → later ≡ begun ++ edge_outputs family (take (i + 1) cuts) (take (i + 1) edges)
+pushed_more family cuts edges i cut e begun before later within same cut_is edge_is had push =
+    let output : (OutName × Edge) = cut_output family (get_or cuts i 0) (get_or edges i e) in
+    push ∙ ap (λ (n : ℕ). before ++ cut_output family n e ∷ []) cut_is ∙ ap (λ (d : Edge). before ++ cut_output family (get_or cuts i 0) d ∷ []) edge_is
+    ∙ ap (λ os. os ++ output ∷ []) had ∙ append_assoc begun (edge_outputs family (take i cuts) (take i edges)) (output ∷ [])
+    ∙ ap (λ os. begun ++ os) (sym (edge_outputs-more family cuts edges i e within (omega (arith, within, same))))
+
+-- all were pushed
+pub pushed_all : (family : Option Family) (cuts : List ℕ) (edges : List Edge) (i : ℕ) (begun before : List (OutName × Edge)) → length cuts ≤ i → length edges ≡ length cuts → before ≡ begun ++ edge_outputs family (take i cuts) (take i edges)
+    → before ≡ begun ++ edge_outputs family cuts edges
+pushed_all family cuts edges i begun before done same had =
+    had ∙ ap (λ ks. begun ++ edge_outputs family ks (take i edges)) (take_all i cuts done) ∙ ap (λ es. begun ++ edge_outputs family cuts es) (take_all i edges (omega (arith, done, same)))
 
 -- what holds of each edge holds of each output's
-pub All-cut_outputs : (P : Edge → Type 0) (cut : ℕ) (edges : List Edge) → ((k : ℕ) (e : Edge) → slice_get edges k ≡ Some e → P e) → All (λ (o : OutName × Edge). P o.1) (cut_outputs_from cut edges)
-All-cut_outputs P cut [] each k d within = absurd (omega (arith, within))
-All-cut_outputs P cut (e ∷ edges) each zero d within = each 0 e refl
-All-cut_outputs P cut (e ∷ edges) each (suc k) d within = All-cut_outputs P (cut + 1) edges (λ j f is. each (suc j) f is) k d (omega (arith, within))
-
--- the layout of these outputs
-pub laid_out : {E : Type 0} (r : Result Layout E) (names : List ℕ) (sides : SidesView) (steps : List ToldStep) (root : ℕ) (nodes : List Node) (edges : List Edge) (outputs : List (OutName × Edge)) → AreInterpolants sides (λ x. AB) steps root nodes edges
-    → outputs ≡ cut_outputs_from 0 edges → IfOk r (IsLayout nodes names outputs) → IfOk r (HasFunctions nodes names outputs) → IfOk r (IsCutLayout names sides steps root)
-laid_out (Ok layout) names sides steps root nodes edges outputs interpolants are laid functions = record {
-  nodes = nodes;
-  edges = edges;
-  interpolants = interpolants;
-  laid_out = subst (λ os. IsLayout nodes names os layout) are laid;
-  functions = subst (λ os. HasFunctions nodes names os layout) are functions;
-}
-laid_out (Err e) names sides steps root nodes edges outputs interpolants are laid functions = tt
-
--- how many there are
-pub cut_outputs_from-length : (cut : ℕ) (edges : List Edge) → length (cut_outputs_from cut edges) ≡ length edges
-cut_outputs_from-length cut [] = refl
-cut_outputs_from-length cut (e ∷ edges) = ap suc (cut_outputs_from-length (cut + 1) edges)
-
--- what stands at a place
-pub cut_outputs_from-at : (cut : ℕ) (edges : List Edge) (k : ℕ) → slice_get (cut_outputs_from cut edges) k ≡ option_map (cut_output (cut + k)) (slice_get edges k)
-cut_outputs_from-at cut [] k = refl
-cut_outputs_from-at cut (e ∷ edges) zero = let same : cut ≡ cut + 0 = omega arith in ap (λ n. Some (cut_output n e)) same
-cut_outputs_from-at cut (e ∷ edges) (suc k) =
-    let same : cut + 1 + k ≡ cut + suc k = omega arith in
-    cut_outputs_from-at (cut + 1) edges k ∙ ap (λ n. option_map (cut_output n) (slice_get edges k)) same
-
--- their names as they are printed
-pub cut_outputs_from-names : (cut : ℕ) (edges : List Edge) → map (λ (o : OutName × Edge). name_text o.0) (cut_outputs_from cut edges) ≡ map decimal (range_with_len cut (length edges))
-cut_outputs_from-names cut [] = refl
-cut_outputs_from-names cut (e ∷ edges) = ap (λ ns. decimal cut ∷ ns) (cut_outputs_from-names (cut + 1) edges)
+pub All-edge_outputs : (P : Edge → Type 0) (family : Option Family) (cuts : List ℕ) (edges : List Edge) → ((k cut : ℕ) (e : Edge) → slice_get cuts k ≡ Some cut → slice_get edges k ≡ Some e → P e) → All (λ (o : OutName × Edge). P o.1) (edge_outputs family cuts edges)
+All-edge_outputs P family [] edges each k d within = absurd (omega (arith, within))
+All-edge_outputs P family (cut ∷ cuts) [] each k d within = absurd (omega (arith, within))
+All-edge_outputs P family (cut ∷ cuts) (e ∷ edges) each zero d within = each 0 cut e refl refl
+All-edge_outputs P family (cut ∷ cuts) (e ∷ edges) each (suc k) d within = All-edge_outputs P family cuts edges (λ j n f at is. each (suc j) n f at is) k d (omega (arith, within))
 
 -- ---- what the text is read back as
 
--- what an optional thing is mapped to, if it is there
-mapped_some : {A B : Type 0} (f : A → B) (o : Option A) (y : B) → option_map f o ≡ Some y → (x : A) × (o ≡ Some x) × (f x ≡ y)
-mapped_some f None y e = cc
-mapped_some f (Some x) y e = (x, refl, (let same : f x ≡ y = cc in same))
-
--- the literal of a circuit has the values of the edge, and reaches variables alone that it reaches
+-- the literal of a circuit has the values of the edge, reaches variables alone that it reaches, and is constant where it is
 pub record IsOutputOf (names : List ℕ) (nodes : List Node) (e : Edge) (c : Circuit) (l : ℕ) : Type 0 where
   pub value : (s : Assignment) → circuit_value s c l ≡ edge_value (dense_assignment names s) nodes e
   pub cone_is : (x : ℕ) → Contains (circuit_cone c l) x → Contains (map (slice_index names) (cone nodes e)) x
+  pub constant : e.place ≡ 0 → l ≡ cond e.negated 1 0
+
+-- the output that was read is that of the edge
+pub record IsReadOf (names : List ℕ) (nodes : List Node) (c : Circuit) (p : OutName × Edge) (o : Output) : Type 0 where
+  pub name : o.name ≡ name_text p.0
+  pub literal : IsOutputOf names nodes p.1 c o.literal
+
+-- so is each of the outputs
+abbrev pub AreReadOf : List ℕ → List Node → Circuit → List (OutName × Edge) → List Output → Type 0
+AreReadOf names nodes c [] [] = Unit {0}
+AreReadOf names nodes c [] (o ∷ os) = ⊥
+AreReadOf names nodes c (p ∷ ps) [] = ⊥
+AreReadOf names nodes c (p ∷ ps) (o ∷ os) = IsReadOf names nodes c p o × AreReadOf names nodes c ps os
 
 -- two lists with the same images have them at each place
 same_images : {A B C : Type 0} (f : A → C) (g : B → C) (xs : List A) (ys : List B) (k : ℕ) (x : A) (y : B) → map f xs ≡ map g ys → slice_get xs k ≡ Some x → slice_get ys k ≡ Some y → f x ≡ g y
 same_images f g xs ys k x y e a b = same_Some (f x) (g y) (sym (slice_get-to_map f xs k x a) ∙ ap (λ zs. slice_get zs k) e ∙ slice_get-to_map g ys k y b)
 
-module _ (names : List ℕ) (sides : SidesView) (steps : List ToldStep) (root : ℕ) (layout : Layout) (laid : IsCutLayout names sides steps root layout) where
-  -- as many outputs as edges
-  pub layout_outputs-length : length layout.outputs ≡ length laid.edges
-  layout_outputs-length =
-      ap length laid.laid_out.outputs_are ∙ length-map (cut_outputs_from 0 laid.edges) (λ (o : OutName × Edge). (o.0, edge_literal laid.laid_out.numbers o.1)) ∙ cut_outputs_from-length 0 laid.edges
+module _ (names : List ℕ) (nodes : List Node) (c : Circuit) where
+  -- outputs that are read at each place
+  from_places : (ps : List (OutName × Edge)) (os : List Output) → length os ≡ length ps → ((k : ℕ) (p : OutName × Edge) (o : Output) → slice_get ps k ≡ Some p → slice_get os k ≡ Some o → IsReadOf names nodes c p o) → AreReadOf names nodes c ps os
+  from_places [] [] same each = tt
+  from_places [] (o ∷ os) same each = absurd (omega (arith, same))
+  from_places (p ∷ ps) [] same each = absurd (omega (arith, same))
+  from_places (p ∷ ps) (o ∷ os) same each = (each 0 p o refl refl, from_places ps os (omega (arith, same)) (λ k q r at is. each (suc k) q r at is))
 
-  -- each is of an edge
-  layout_output-at : (k : ℕ) (o : OutName × ℕ) → slice_get layout.outputs k ≡ Some o → (e : Edge) × (slice_get laid.edges k ≡ Some e) × (slice_get (cut_outputs_from 0 laid.edges) k ≡ Some (cut_output k e))
-  layout_output-at k o is =
-      let from = slice_get-from_map (λ (p : OutName × Edge). (p.0, edge_literal laid.laid_out.numbers p.1)) (cut_outputs_from 0 laid.edges) k o (ap (λ os. slice_get os k) (sym laid.laid_out.outputs_are) ∙ is) in
-      let same : 0 + k ≡ k = omega arith in
-      let at : slice_get (cut_outputs_from 0 laid.edges) k ≡ option_map (cut_output k) (slice_get laid.edges k) = cut_outputs_from-at 0 laid.edges k ∙ ap (λ n. option_map (cut_output n) (slice_get laid.edges k)) same in
-      let found = mapped_some (cut_output k) (slice_get laid.edges k) from.0 (sym at ∙ from.1) in
-      (found.0, found.1, at ∙ ap (option_map (cut_output k)) found.1)
+  -- those of two lists, one after the other, are read apart
+  pub reads-split : (ps qs : List (OutName × Edge)) (os : List Output) → AreReadOf names nodes c (ps ++ qs) os → (first : List Output) × (others : List Output) × (os ≡ first ++ others) × AreReadOf names nodes c ps first × AreReadOf names nodes c qs others
+  reads-split [] qs os read = ([], os, refl, tt, read)
+  reads-split (p ∷ ps) qs [] read = absurd read
+  reads-split (p ∷ ps) qs (o ∷ os) read =
+      let rest = reads-split ps qs os read.1 in
+      (o ∷ rest.0, rest.1, ap (λ zs. o ∷ zs) rest.2, (read.0, rest.3), rest.4)
 
-  -- their names
-  layout_outputs-names : map (λ (o : OutName × ℕ). name_text o.0) layout.outputs ≡ map decimal (range_with_len 0 (length laid.edges))
-  layout_outputs-names =
-      ap (map (λ (o : OutName × ℕ). name_text o.0)) laid.laid_out.outputs_are ∙ kept (cut_outputs_from 0 laid.edges) ∙ cut_outputs_from-names 0 laid.edges
+  -- no output is read of none
+  pub reads-none : (os : List Output) → AreReadOf names nodes c [] os → os ≡ []
+  reads-none [] read = refl
+  reads-none (o ∷ os) read = absurd read
+
+  -- the outputs of one system
+  pub reads-printed : (family : Option Family) (cuts : List ℕ) (edges : List Edge) (os : List Output) → length edges ≡ length cuts → AreReadOf names nodes c (edge_outputs family cuts edges) os
+      → os ≡ map printed_output (outputs_at family cuts (map (λ (o : Output). o.literal) os))
+  reads-printed family [] edges [] same read = refl
+  reads-printed family [] edges (o ∷ os) same read = absurd read
+  reads-printed family (cut ∷ cuts) [] os same read = absurd (omega (arith, same))
+  reads-printed family (cut ∷ cuts) (e ∷ edges) [] same read = absurd read
+  reads-printed family (cut ∷ cuts) (e ∷ edges) (o ∷ os) same read =
+      ap (λ (n : List ℕ). record { name = n; literal = o.literal } ∷ os) (read.0).name
+      ∙ ap (λ (rs : List Output). record { name = name_text (record { family = family; cut = cut }); literal = o.literal } ∷ rs) (reads-printed family cuts edges os (omega (arith, same)) read.1)
+
+  pub reads-count : (family : Option Family) (cuts : List ℕ) (edges : List Edge) (os : List Output) → length edges ≡ length cuts → AreReadOf names nodes c (edge_outputs family cuts edges) os → length (map (λ (o : Output). o.literal) os) ≡ length cuts
+  reads-count family [] edges [] same read = refl
+  reads-count family [] edges (o ∷ os) same read = absurd read
+  reads-count family (cut ∷ cuts) [] os same read = absurd (omega (arith, same))
+  reads-count family (cut ∷ cuts) (e ∷ edges) [] same read = absurd read
+  reads-count family (cut ∷ cuts) (e ∷ edges) (o ∷ os) same read = ap suc (reads-count family cuts edges os (omega (arith, same)) read.1)
+
+  -- the literal for a cut is that of an edge
+  pub reads-at : (family : Option Family) (cuts : List ℕ) (edges : List Edge) (os : List Output) → AreReadOf names nodes c (edge_outputs family cuts edges) os
+      → (k cut l : ℕ) → slice_get cuts k ≡ Some cut → slice_get (map (λ (o : Output). o.literal) os) k ≡ Some l → (e : Edge) × (slice_get edges k ≡ Some e) × IsOutputOf names nodes e c l
+  reads-at family [] edges os read k cut l at is = absurd (cc)
+  reads-at family (n ∷ cuts) [] [] read k cut l at is = absurd (cc)
+  reads-at family (n ∷ cuts) [] (o ∷ os) read k cut l at is = absurd read
+  reads-at family (n ∷ cuts) (e ∷ edges) [] read k cut l at is = absurd read
+  reads-at family (n ∷ cuts) (e ∷ edges) (o ∷ os) read zero cut l at is = (e, refl, subst (IsOutputOf names nodes e c) (same_Some o.literal l is) (read.0).literal)
+  reads-at family (n ∷ cuts) (e ∷ edges) (o ∷ os) read (suc k) cut l at is = reads-at family cuts edges os read.1 k cut l at is
+
+-- ---- what the layout is read back as
+
+module _ (names : List ℕ) (nodes : List Node) (outputs : List (OutName × Edge)) (layout : Layout) (laid : IsLayout nodes names outputs layout) (functions : HasFunctions nodes names outputs layout) (c : Circuit) (same : SameCircuit layout c) where
+  layout_length : length layout.outputs ≡ length outputs
+  layout_length = ap length laid.outputs_are ∙ length-map outputs (λ (o : OutName × Edge). (o.0, edge_literal laid.numbers o.1))
+
+  circuit_length : length c.outputs ≡ length layout.outputs
+  circuit_length = sym (length-map c.outputs (λ (o : Output). o.name)) ∙ ap length same.names_are ∙ length-map layout.outputs (λ (o : OutName × ℕ). name_text o.0)
+
+  -- what stands at a place of the layout has the name of the output there
+  layout_name : (k : ℕ) (p : OutName × Edge) (o : OutName × ℕ) → slice_get outputs k ≡ Some p → slice_get layout.outputs k ≡ Some o → o.0 ≡ p.0
+  layout_name k p o at is =
+      let from = slice_get-from_map (λ (q : OutName × Edge). (q.0, edge_literal laid.numbers q.1)) outputs k o (ap (λ os. slice_get os k) (sym laid.outputs_are) ∙ is) in
+      ap (λ (q : OutName × ℕ). q.0) (sym from.2) ∙ ap (λ (q : OutName × Edge). q.0) (same_Some from.0 p (sym from.1 ∙ at))
+
+  read_at : (k : ℕ) (p : OutName × Edge) (o : Output) → slice_get outputs k ≡ Some p → slice_get c.outputs k ≡ Some o → IsReadOf names nodes c p o
+  read_at k p o at is =
+      let within : k < length c.outputs = slice_get-below c.outputs k o is in
+      let lo = slice_get-within layout.outputs k (omega (arith, within, circuit_length)) in
+      record {
+        name = same_images (λ (q : Output). q.name) (λ (q : OutName × ℕ). name_text q.0) c.outputs layout.outputs k o lo.0 same.names_are is lo.1 ∙ ap name_text (layout_name k p lo.0 at lo.1);
+        literal = record {
+          value = λ s. same_images (λ (q : Output). circuit_value s c q.literal) (λ (q : OutName × ℕ). circuit_value s (circuit_of layout) q.1) c.outputs layout.outputs k o lo.0 (same.values_are s) is lo.1 ∙ functions.values s k p lo.0 at lo.1;
+          cone_is = λ x h. (functions.cones k p lo.0 x at lo.1).0
+              (subst (λ xs. Contains xs x) (same_images (λ (q : Output). circuit_cone c q.literal) (λ (q : OutName × ℕ). circuit_cone (circuit_of layout) q.1) c.outputs layout.outputs k o lo.0 same.cones_are is lo.1) h);
+          constant = λ zero_is.
+              let small_literal : lo.0.1 ≡ cond (p.1).negated 1 0 = functions.constants k p lo.0 at lo.1 zero_is in
+              let read = same.constants k lo.0 lo.1 (rw small_literal (small (p.1).negated)) in
+              ap (λ (q : Output). q.literal) (same_Some o read.0 (sym is ∙ read.1)) ∙ read.2 ∙ small_literal;
+        };
+      }
     where
-      kept : (os : List (OutName × Edge)) → map (λ (o : OutName × ℕ). name_text o.0) (map (λ (o : OutName × Edge). (o.0, edge_literal laid.laid_out.numbers o.1)) os) ≡ map (λ (o : OutName × Edge). name_text o.0) os
-      kept [] = refl
-      kept (o ∷ os) = ap (λ ns. name_text o.0 ∷ ns) (kept os)
+      small : (b : Bool) → cond b 1 0 < 2
+      small true = omega arith
+      small false = omega arith
 
-  module _ (c : Circuit) (same : SameCircuit layout c) where
-    pub circuit_names : map (λ (o : Output). o.name) c.outputs ≡ cut_names sides.parts
-    circuit_names = same.names_are ∙ layout_outputs-names ∙ ap (λ n. map decimal (range_with_len 0 n)) laid.interpolants.count
+  -- the outputs of the circuit are those of the edges
+  pub outputs-read : AreReadOf names nodes c outputs c.outputs
+  outputs-read = from_places names nodes c outputs c.outputs (circuit_length ∙ layout_length) read_at
 
-    pub circuit_outputs-length : length c.outputs ≡ length layout.outputs
-    circuit_outputs-length = sym (length-map c.outputs (λ (o : Output). o.name)) ∙ ap length same.names_are ∙ length-map layout.outputs (λ (o : OutName × ℕ). name_text o.0)
-
-    pub literals-count : length (output_literals c) ≡ sides.parts + 1
-    literals-count = length-map c.outputs (λ (o : Output). o.literal) ∙ circuit_outputs-length ∙ layout_outputs-length ∙ laid.interpolants.count
-
-    -- the literal of each cut is that of the edge
-    pub literal-at : (cut l : ℕ) → slice_get (output_literals c) cut ≡ Some l → (e : Edge) × (slice_get laid.edges cut ≡ Some e) × IsOutputOf names laid.nodes e c l
-    literal-at cut l is =
-        let o = slice_get-from_map (λ (o : Output). o.literal) c.outputs cut l is in
-        let within : cut < length c.outputs = slice_get-below c.outputs cut o.0 o.1 in
-        let lo = slice_get-within layout.outputs cut (omega (arith, within, circuit_outputs-length)) in
-        let e = layout_output-at cut lo.0 lo.1 in (
-          e.0,
-          e.1,
-          record {
-            value = λ s. ap (λ m. circuit_value s c m) (sym o.2) ∙ same_images (λ (p : Output). circuit_value s c p.literal) (λ (p : OutName × ℕ). circuit_value s (circuit_of layout) p.1) c.outputs layout.outputs cut o.0 lo.0 (same.values_are s) o.1 lo.1
-                ∙ laid.functions.values s cut (cut_output cut e.0) lo.0 e.2 lo.1;
-            cone_is = λ x h. (laid.functions.cones cut (cut_output cut e.0) lo.0 x e.2 lo.1).0
-                (subst (λ xs. Contains xs x) (ap (λ m. circuit_cone c m) (sym o.2) ∙ same_images (λ (p : Output). circuit_cone c p.literal) (λ (p : OutName × ℕ). circuit_cone (circuit_of layout) p.1) c.outputs layout.outputs cut o.0 lo.0 same.cones_are o.1 lo.1) h);
-          },
-        )
-
-    -- and where the edge is constant, so is the literal
-    pub literal-constant : (cut : ℕ) (negated : Bool) → slice_get laid.edges cut ≡ Some (constant_edge negated) → slice_get (output_literals c) cut ≡ Some (cond negated 1 0)
-    literal-constant cut negated is =
-        let within : cut < length laid.edges = slice_get-below laid.edges cut (constant_edge negated) is in
-        let lo = slice_get-within layout.outputs cut (omega (arith, within, layout_outputs-length)) in
-        let e = layout_output-at cut lo.0 lo.1 in
-        let constant : e.0 ≡ constant_edge negated = same_Some e.0 (constant_edge negated) (sym e.1 ∙ is) in
-        let literal : lo.0.1 ≡ cond negated 1 0 = laid.functions.constants cut (cut_output cut e.0) lo.0 e.2 lo.1 (ap (λ (d : Edge). d.place) constant) ∙ ap (λ (d : Edge). cond d.negated 1 0) constant in
-        let p = same.constants cut lo.0 lo.1 (rw literal (small negated)) in
-        slice_get-to_map (λ (o : Output). o.literal) c.outputs cut p.0 p.1 ∙ ap Some (p.2 ∙ literal)
-      where
-        small : (b : Bool) → cond b 1 0 < 2
-        small true = omega arith
-        small false = omega arith
-
-    -- each input is in the cone of an output
-    pub inputs-used : (x : ℕ) → Contains c.inputs x → (o : Output) × Contains c.outputs o × Contains (circuit_cone c o.literal) x
-    inputs-used x h =
-        let used = laid.functions.used x (subst (λ xs. Contains xs x) same.inputs_are h) in
-        let within : used.0 < length layout.outputs = slice_get-below layout.outputs used.0 used.1 used.2 in
-        let o = slice_get-within c.outputs used.0 (omega (arith, within, circuit_outputs-length)) in (
-          o.0,
-          Contains-from_slice_get c.outputs used.0 o.0 o.1,
-          subst (λ xs. Contains xs x) (sym (same_images (λ (p : Output). circuit_cone c p.literal) (λ (p : OutName × ℕ). circuit_cone (circuit_of layout) p.1) c.outputs layout.outputs used.0 o.0 used.1 same.cones_are o.1 used.2)) used.3,
-        )
+  -- each input is in the cone of an output
+  pub inputs-used : (x : ℕ) → Contains c.inputs x → (o : Output) × Contains c.outputs o × Contains (circuit_cone c o.literal) x
+  inputs-used x h =
+      let used = functions.used x (subst (λ xs. Contains xs x) same.inputs_are h) in
+      let within : used.0 < length layout.outputs = slice_get-below layout.outputs used.0 used.1 used.2 in
+      let o = slice_get-within c.outputs used.0 (omega (arith, within, circuit_length)) in (
+        o.0,
+        Contains-from_slice_get c.outputs used.0 o.0 o.1,
+        subst (λ xs. Contains xs x) (sym (same_images (λ (p : Output). circuit_cone c p.literal) (λ (p : OutName × ℕ). circuit_cone (circuit_of layout) p.1) c.outputs layout.outputs used.0 o.0 used.1 same.cones_are o.1 used.2)) used.3,
+      )

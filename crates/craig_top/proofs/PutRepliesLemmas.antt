@@ -2,6 +2,7 @@
 use Rattle.std.proofs.Common.{◌≡◌, ◌∙◌, sym, ap, subst, refl, ◌⊎◌, inl, inr, ℕ, zero, suc, ◌+◌, ◌<◌, ◌≤◌, List, [], ◌∷◌, ◌++◌, length, take, map, Option, Some, slice_get, arith, length-append}
 use Rattle.std.proofs.Math.Seq.{take-append_seam}
 use Rattle.std.proofs.lemmas.List.{append-nil}
+use Rattle.craig_spec.proofs.MemberLemmas.{slice_get-front}
 use Rattle.craig_script.specs.declared.line.Line.{Line}
 use Rattle.craig_script.specs.Lines.{line_of, script_lines, whole_lines}
 use Rattle.craig_top.specs.declared.settings.Settings.{Settings}
@@ -33,11 +34,6 @@ transcript_replies state (line ∷ lines) text (reply, rest, allowed, others, is
 -- the front of a list
 take-front : {A : Type 0} (front back : List A) → take (length front) (front ++ back) ≡ front
 take-front front back = take-append_seam front back
-
--- what stands behind the front
-pub slice_get-front : {A : Type 0} (front : List A) (x : A) (back : List A) → slice_get (front ++ x ∷ back) (length front) ≡ Some x
-slice_get-front [] x back = refl
-slice_get-front (y ∷ front) x back = slice_get-front front x back
 
 pub begun_replies : (state : State) (lines : List Line) (text : List ℕ) → BeginsTranscript state lines text → AreFirstReplies state lines text
 begun_replies state lines text (answered, others, here, transcript) = (

@@ -1,57 +1,124 @@
 -- What a refuting reply has, what the reply to a line is, and what the line does to the given state.
-use Rattle.std.proofs.Common.{◌≡◌, ◌∙◌, sym, ap, subst, refl, ◌⊎◌, inl, inr, ℕ, zero, suc, ◌+◌, ◌<◌, List, [], length, map, codes, decimal, Some, slice_get, Result, Ok, Err, ℤ, arith}
-use Rattle.std.specs.List.{range_with_len}
-use Rattle.std.proofs.lemmas.List.{length-map}
+use Rattle.std.proofs.Common.{◌≡◌, ◌∙◌, sym, ap, subst, refl, ◌⊎◌, inl, inr, ℕ, List, [], ◌∷◌, ◌++◌, append_assoc, append-nil, length, map, codes, decimal, Contains, Option, slice_get, Result, Ok, Err, ℤ, arith}
+use Rattle.std.proofs.lemmas.List.{length-map, map-append}
+use Rattle.std.proofs.lemmas.List.Elements.{All-contains}
 use Rattle.craig_spec.specs.Circuit.{Circuit, Output}
-use Rattle.craig_spec.proofs.MemberLemmas.{slice_get-below, slice_get-to_map}
+use Rattle.craig_spec.specs.Cut.{PartClause, PartLiteral}
+use Rattle.craig_spec.specs.Literal.{Literal}
+use Rattle.craig_spec.specs.PartialInterpolant.{Label}
+use Rattle.craig_spec.specs.Sequence.{IsSequence}
+use Rattle.craig_spec.proofs.MemberLemmas.{Contains-front, Contains-later, slice_get-from_map}
+use Rattle.craig_aiger.specs.OutNames.{family_text}
+use Rattle.craig_aiger.specs.declared.family.Family.{Family}
+use Rattle.craig_aiger.specs.declared.out_name.OutName.{OutName}
 use Rattle.craig_script.specs.declared.command.Command.{Command}
-use Rattle.craig_script.specs.declared.command.Command.TheVariants.{Nothing, Add, Solve}
+use Rattle.craig_script.specs.declared.command.Command.TheVariants.{Nothing, Parts, Add, System, Mark, Cuts, Solve}
 use Rattle.craig_script.specs.declared.line.Line.{Line}
+use Rattle.craig_script.specs.declared.cut_word.CutWord.{CutWord}
+use Rattle.craig_script.specs.declared.cut_word.CutWord.TheVariants as cut
+use Rattle.craig_script.specs.declared.setting_words.MarkWord.{MarkWord}
+use Rattle.craig_script.specs.declared.setting_words.MarkWord.TheVariants as mark
+use Rattle.craig_script.specs.declared.setting_words.SystemWord.{SystemWord}
 use Rattle.craig_script.specs.declared.refusal.Refusal.{Refusal}
-use Rattle.craig_top.specs.GivenState.{State, next, obeyed_if_admitted, reading}
-use Rattle.craig_top.specs.RefutationReply.{IsCircuitText, IsRefutationReply, cut_names}
+use Rattle.craig_top.specs.Blocks.{Block, IsCircuitText, ascii_format, lined_bytes, printed_output}
+use Rattle.craig_top.specs.GivenState.{ScriptSettings, State, next, obeyed_if_admitted, reading}
+use Rattle.craig_top.specs.RefutationReply.{GivesInterpolants, IsRefutationReply, SystemLiterals, outputs_at, system_outputs}
 use Rattle.craig_top.specs.Reply.{Reply, RepliesToReading, assumptions_of}
-use Rattle.craig_top.specs.ReplyContents.{HaveTheNames, HasAccepted, IsTextOf, IsStrictText, PrintsModel}
-use Rattle.craig_top.specs.ReplyTexts.{refusal_text}
-use Rattle.craig_top.specs.TrueParts.{AreNamedByCuts}
-use Rattle.craig_top.proofs.TruePartsLemmas.{some_same}
+use Rattle.craig_top.specs.ReplyContents.{AreLiteralsOf, AreNamedBy, HasAccepted, HasCuts, HaveOutputs, IsDivided, IsMarkFor, IsTextOf, IsStrictText, PrintsModel, PrintsRefutation, with_mark, with_system}
+use Rattle.craig_top.specs.ReplyTexts.{failed_text, literals_text, refusal_text}
+use Rattle.craig_top.specs.WrittenSystems.{written_systems}
 use Rattle.craig_top.proofs.CircuitShapeLemmas.{all_are_used, gates_are_conjunctions, gates_stand_once, inputs_rise, operands_are_ordered, outputs_are_literals}
 
 -- ---- texts of circuits
 
-module _ (names : List (List ℕ)) (bytes : List ℕ) (c : Circuit) (text : IsCircuitText names bytes c) where
+module _ (outputs : List (OutName × ℕ)) (bytes : List ℕ) (c : Circuit) (text : IsCircuitText ascii_format outputs bytes c) where
   pub read_as : IsTextOf bytes c
   read_as = (text.reads, gates_are_conjunctions c text.is_circuit, outputs_are_literals c text.is_circuit, text.used)
 
   pub strict_text : IsStrictText bytes
   strict_text = (text.layout, text.written, inputs_rise _ text.strict, operands_are_ordered _ text.strict, gates_stand_once _ text.strict, all_are_used _ text.strict)
 
-  pub are_named : HaveTheNames names c.outputs
-  are_named = (
-    sym (length-map c.outputs (λ (o : Output). o.name)) ∙ ap length text.named,
-    λ k o is. ap (λ ns. slice_get ns k) (sym text.named) ∙ slice_get-to_map (λ (o : Output). o.name) c.outputs k o is,
+  pub have_outputs : HaveOutputs outputs c.outputs
+  have_outputs = (
+    ap length text.outputs_are ∙ length-map outputs printed_output,
+    λ k o is. (let from = slice_get-from_map printed_output outputs k o (ap (λ os. slice_get os k) (sym text.outputs_are) ∙ is) in
+        (from.0, from.1, ap (λ (p : Output). p.name) (sym from.2), ap (λ (p : Output). p.literal) (sym from.2))),
   )
 
--- the names of the cuts are their numbers
-number_at : (first n k : ℕ) → k < n → slice_get (map decimal (range_with_len first n)) k ≡ Some (decimal (first + k))
-number_at first zero k within = absurd (omega (arith, within))
-number_at first (suc n) zero within = let e : first ≡ first + 0 = omega arith in ap (λ i. Some (decimal i)) e
-number_at first (suc n) (suc k) within = let e : first + 1 + k ≡ first + suc k = omega arith in number_at (first + 1) n k (omega (arith, within)) ∙ ap (λ i. Some (decimal i)) e
+-- ---- outputs of systems
 
-range_length : (first n : ℕ) → length (range_with_len first n) ≡ n
-range_length first zero = refl
-range_length first (suc n) = ap suc (range_length (first + 1) n)
+-- the names of the outputs of one system
+names_at : (family : Option Family) (cuts literals : List ℕ) → length literals ≡ length cuts → map (λ (o : Output). o.name) (map printed_output (outputs_at family cuts literals)) ≡ map (λ cut. family_text family ++ decimal cut) cuts
+names_at family [] literals e = refl
+names_at family (cut ∷ cuts) [] e = absurd (omega (arith, e))
+names_at family (cut ∷ cuts) (l ∷ literals) e = ap (λ ns. (family_text family ++ decimal cut) ∷ ns) (names_at family cuts literals (omega (arith, e)))
 
-pub named_by_cuts : (parts : ℕ) (outputs : List Output) → HaveTheNames (cut_names parts) outputs → AreNamedByCuts parts outputs
-named_by_cuts parts outputs (count, each) = (
-  all,
-  λ cut o is.
-      let within : cut < length outputs = slice_get-below outputs cut o is in
-      some_same o.name (decimal cut) (sym (each cut o is) ∙ number_at 0 (parts + 1) cut (omega (arith, within, all)) ∙ ap (λ i. Some (decimal i)) (let e : 0 + cut ≡ cut = omega arith in e)),
-)
-  where
-    all : length outputs ≡ parts + 1
-    all = count ∙ length-map (range_with_len 0 (parts + 1)) decimal ∙ range_length 0 (parts + 1)
+-- their literals
+literals_at : (family : Option Family) (cuts literals : List ℕ) → length literals ≡ length cuts → map (λ (o : Output). o.literal) (map printed_output (outputs_at family cuts literals)) ≡ literals
+literals_at family [] [] e = refl
+literals_at family [] (l ∷ literals) e = absurd (omega (arith, e))
+literals_at family (cut ∷ cuts) [] e = absurd (omega (arith, e))
+literals_at family (cut ∷ cuts) (l ∷ literals) e = ap (λ ls. l ∷ ls) (literals_at family cuts literals (omega (arith, e)))
+
+-- those of all systems
+module _ (cuts : List ℕ) where
+  system_names : (systems : List SystemLiterals) → ((y : SystemLiterals) → Contains systems y → length y.literals ≡ length cuts) → AreNamedBy (map (λ (y : SystemLiterals). y.system) systems) cuts (map printed_output (system_outputs cuts systems))
+  system_names [] counts = refl
+  system_names (y ∷ systems) counts =
+      ap (map (λ (o : Output). o.name)) (map-append printed_output (outputs_at y.system.family cuts y.literals) (system_outputs cuts systems))
+      ∙ map-append (λ (o : Output). o.name) (map printed_output (outputs_at y.system.family cuts y.literals)) (map printed_output (system_outputs cuts systems))
+      ∙ ap (λ ns. ns ++ map (λ (o : Output). o.name) (map printed_output (system_outputs cuts systems))) (names_at y.system.family cuts y.literals (counts y (Contains-front y systems)))
+      ∙ ap (λ ns. map (λ cut. family_text y.system.family ++ decimal cut) cuts ++ ns) (system_names systems (λ z here. counts z (Contains-later y systems z here)))
+
+  system_literals : (systems : List SystemLiterals) → ((y : SystemLiterals) → Contains systems y → length y.literals ≡ length cuts) → AreLiteralsOf systems (map printed_output (system_outputs cuts systems))
+  system_literals [] counts = refl
+  system_literals (y ∷ systems) counts =
+      ap (map (λ (o : Output). o.literal)) (map-append printed_output (outputs_at y.system.family cuts y.literals) (system_outputs cuts systems))
+      ∙ map-append (λ (o : Output). o.literal) (map printed_output (outputs_at y.system.family cuts y.literals)) (map printed_output (system_outputs cuts systems))
+      ∙ ap (λ ns. ns ++ map (λ (o : Output). o.literal) (map printed_output (system_outputs cuts systems))) (literals_at y.system.family cuts y.literals (counts y (Contains-front y systems)))
+      ∙ ap (λ ns. y.literals ++ ns) (system_literals systems (λ z here. counts z (Contains-later y systems z here)))
+
+-- ---- blocks
+
+module _ (clauses : List PartClause) (settings : ScriptSettings) (block : Block) (gives : GivesInterpolants clauses settings block) where
+  ascii_text : IsCircuitText ascii_format block.outputs block.bytes gives.circuit
+  ascii_text = subst (λ format. IsCircuitText format block.outputs block.bytes gives.circuit) gives.format gives.is_text
+
+  pub block_reads : IsTextOf block.bytes gives.circuit
+  block_reads = read_as block.outputs block.bytes gives.circuit ascii_text
+
+  pub block_is_strict : IsStrictText block.bytes
+  block_is_strict = strict_text block.outputs block.bytes gives.circuit ascii_text
+
+  pub block_outputs : HaveOutputs block.outputs gives.circuit.outputs
+  block_outputs = have_outputs block.outputs block.bytes gives.circuit ascii_text
+
+  -- the literals of each system are a sequence
+  pub system_sequence : (y : SystemLiterals) → Contains gives.systems y → IsSequence clauses settings.parts settings.cuts gives.circuit y.literals
+  system_sequence y here = All-contains (λ (z : SystemLiterals). IsSequence clauses settings.parts settings.cuts gives.circuit z.literals) gives.systems y gives.interpolants.sequences here
+
+  counted : (y : SystemLiterals) → Contains gives.systems y → length y.literals ≡ length settings.cuts
+  counted y here = (system_sequence y here).count
+
+  outputs_printed : map printed_output (system_outputs settings.cuts gives.systems) ≡ gives.circuit.outputs
+  outputs_printed = sym (gives.is_text.outputs_are ∙ ap (map printed_output) gives.outputs_are)
+
+  pub block_names : AreNamedBy (written_systems settings) settings.cuts gives.circuit.outputs
+  block_names =
+      subst (λ ys. AreNamedBy ys settings.cuts gives.circuit.outputs) gives.interpolants.systems_are
+      (subst (λ os. AreNamedBy (map (λ (y : SystemLiterals). y.system) gives.systems) settings.cuts os) outputs_printed (system_names settings.cuts gives.systems counted))
+
+  pub block_literals : AreLiteralsOf gives.systems gives.circuit.outputs
+  block_literals = subst (AreLiteralsOf gives.systems) outputs_printed (system_literals settings.cuts gives.systems counted)
+
+-- the text of one block
+as_printed : (failed : List Literal) (bytes : List ℕ) → failed_text failed ++ lined_bytes (codes "a") bytes ≡ codes "s UNSATISFIABLE\nf " ++ literals_text failed ++ codes "a " ++ decimal (length bytes) ++ codes "\n" ++ bytes
+as_printed failed bytes = simp append_assoc
+
+pub text_of_block : (state : State) (assumptions : List PartLiteral) (text : List ℕ) (reply : IsRefutationReply state assumptions text) → PrintsRefutation text reply.failed reply.block.bytes
+text_of_block state assumptions text reply =
+    let failed : List Literal = map (λ (f : PartLiteral). f.literal) reply.failed in
+    reply.text_is ∙ ap (λ bytes. failed_text failed ++ bytes) (append-nil (lined_bytes reply.block.letter reply.block.bytes) ∙ ap (λ letter. lined_bytes letter reply.block.bytes) reply.gives.letter) ∙ as_printed failed reply.block.bytes
 
 -- ---- replies to lines
 
@@ -63,6 +130,18 @@ module _ (state : State) (line : Line) (text : List ℕ) where
 
   pub reply_to_nothing : Reply state line text → reading state line ≡ Ok Nothing → text ≡ []
   reply_to_nothing reply is = reply_to_reading reply (Ok Nothing) is
+
+  pub reply_to_parts : Reply state line text → (n : ℕ) → reading state line ≡ Ok (Parts n) → text ≡ codes "ok\n"
+  reply_to_parts reply n is = reply_to_reading reply (Ok (Parts n)) is
+
+  pub reply_to_system : Reply state line text → (s : SystemWord) → reading state line ≡ Ok (System s) → text ≡ codes "ok\n"
+  reply_to_system reply s is = reply_to_reading reply (Ok (System s)) is
+
+  pub reply_to_mark : Reply state line text → (name : ℕ) (m : MarkWord) → reading state line ≡ Ok (Mark name m) → text ≡ codes "ok\n"
+  reply_to_mark reply name m is = reply_to_reading reply (Ok (Mark name m)) is
+
+  pub reply_to_cuts : Reply state line text → (cuts : CutWord) → reading state line ≡ Ok (Cuts cuts) → text ≡ codes "ok\n"
+  reply_to_cuts reply cuts is = reply_to_reading reply (Ok (Cuts cuts)) is
 
   pub reply_to_add : Reply state line text → (part : ℕ) (lits : List ℤ) → reading state line ≡ Ok (Add part lits) → text ≡ codes "ok\n"
   reply_to_add reply part lits is = reply_to_reading reply (Ok (Add part lits)) is
@@ -85,6 +164,21 @@ module _ (state : State) (line : Line) where
 
   pub next_after_add : (part : ℕ) (lits : List ℤ) → reading state line ≡ Ok (Add part lits) → HasAccepted state part lits (next state line)
   next_after_add part lits is = subst (HasAccepted state part lits) (sym (next_by_reading (Ok (Add part lits)) is)) (refl, refl)
+
+  pub next_after_parts : (n : ℕ) → reading state line ≡ Ok (Parts n) → IsDivided state n (next state line)
+  next_after_parts n is = subst (IsDivided state n) (sym (next_by_reading (Ok (Parts n)) is)) (refl, refl, refl, refl, refl)
+
+  pub next_after_system : (s : SystemWord) → reading state line ≡ Ok (System s) → next state line ≡ with_system state s
+  next_after_system s is = next_by_reading (Ok (System s)) is
+
+  pub next_after_mark : (name : ℕ) (m : MarkWord) (label : Label) → IsMarkFor m label → reading state line ≡ Ok (Mark name m) → next state line ≡ with_mark state name label
+  next_after_mark name mark.A label stands is = next_by_reading (Ok (Mark name mark.A)) is ∙ ap (with_mark state name) (sym stands)
+  next_after_mark name mark.Ab label stands is = next_by_reading (Ok (Mark name mark.Ab)) is ∙ ap (with_mark state name) (sym stands)
+  next_after_mark name mark.B label stands is = next_by_reading (Ok (Mark name mark.B)) is ∙ ap (with_mark state name) (sym stands)
+
+  pub next_after_cuts : (w : CutWord) → reading state line ≡ Ok (Cuts w) → HasCuts state w (next state line)
+  next_after_cuts cut.All is = next_by_reading (Ok (Cuts cut.All)) is
+  next_after_cuts (cut.Chosen numbers) is = next_by_reading (Ok (Cuts (cut.Chosen numbers))) is
 
   pub next_after_nothing : reading state line ≡ Ok Nothing → next state line ≡ state
   next_after_nothing is = next_by_reading (Ok Nothing) is

@@ -1,51 +1,33 @@
 -- The sides of the accepted clauses, as clauses are noted.
-use Rattle.std.proofs.Common.{◌≡◌, ◌∙◌, sym, ap, subst, refl, ℕ, ◌+◌, ◌<◌, ◌≤◌, min, max, Bool, true, false, ◌&&◌, ◌||◌, cond, nat_eq, nat_le, nat_lt, List, [], ◌∷◌, ◌++◌, length, map, take, get_or, Contains, Option, Some, None, filter, arith, inl, inr}
+use Rattle.std.proofs.Common.{◌≡◌, ◌∙◌, sym, ap, subst, refl, ℕ, ◌+◌, ◌<◌, ◌≤◌, Bool, true, false, ◌&&◌, ◌||◌, cond, nat_eq, nat_le, List, [], ◌∷◌, ◌++◌, length, map, take, get_or, Contains, Option, Some, filter, arith, inl, inr}
 use Rattle.std.proofs.Math.Bool.{or-false}
 use Rattle.std.specs.List.{list_any}
-use Rattle.std.proofs.lemmas.Bool.{cases_Bool, or_left, or_right, or_cases, eqb-true, leb-true, le-leb, leb-false, ltb-true, ltb-false, lt-ltb}
+use Rattle.std.proofs.lemmas.Bool.{or_right, or_cases, eqb-true, le-leb}
 use Rattle.std.proofs.lemmas.List.{map-append, take_more}
 use Rattle.std.proofs.lemmas.List.Elements.{Contains-append_cases}
 use Rattle.std.proofs.lemmas.List.Folds.{list_any-append}
 use Rattle.craig_spec.specs.Literal.{Literal, Clause}
-use Rattle.craig_spec.specs.Cut.{PartClause, clauses_within}
+use Rattle.craig_spec.specs.Cut.{PartClause, clauses_within, is_on_side_a, is_on_side_b}
 use Rattle.craig_spec.specs.Occurs.{occurs, occurs_in_clause}
 use Rattle.craig_base.specs.declared.script_part.Part.{Part}
+use Rattle.craig_itp.specs.Interpolants.{Spans}
+use Rattle.craig_itp.proofs.SpansLemmas.{spans_kept, spans_noted}
 use Rattle.craig_label.specs.Sides.{Range, SidesView, IsSides, IsNoted, range_of, widened, is_in_a, is_in_b, occurs_in_a, occurs_in_b}
 use Rattle.craig_top.specs.Sides.{AreSidesOf, NotesClause, parted}
-use Rattle.craig_top.proofs.BelowLemmas.{same_answer}
+use Rattle.craig_label.proofs.RangeLemmas.{is_in_a-widened, is_in_b-widened, same_answer}
 use Rattle.craig_spec.proofs.MemberLemmas.{Contains-one}
 
 -- ---- a variable is noted
 
-min_within : (a b n : ℕ) → nat_le (min a b) n ≡ (nat_le a n || nat_le b n)
-min_within a b n = same_answer _ _
-    (λ e. (let h : min a b ≤ n = leb-true (min a b) n e in elim (cases_Bool (nat_le a n)) [
-      | inl t ↦ or_left _ _ t
-      | inr f ↦ or_right _ _ (le-leb b n (omega (arith, leb-false a n f)))
-    ]))
-    (λ e. elim (or_cases _ _ e) [
-      | inl t ↦ le-leb (min a b) n (let h : a ≤ n = leb-true a n t in omega arith)
-      | inr t ↦ le-leb (min a b) n (let h : b ≤ n = leb-true b n t in omega arith)
-    ])
+-- part 0 is up to each cut
+on_side_a : (part cut : ℕ) → nat_le part cut ≡ is_on_side_a cut part
+on_side_a part cut = same_answer _ _ (λ e. or_right (nat_eq part 0) (nat_le part cut) e) (λ e. elim (or_cases (nat_eq part 0) (nat_le part cut) e) [
+  | inl t ↦ le-leb part cut (let h : part ≡ 0 = eqb-true part 0 t in omega arith)
+  | inr t ↦ t
+])
 
-widened_in_a : (cut part : ℕ) (r : Option Range) → is_in_a cut (Some (widened r part)) ≡ (is_in_a cut r || nat_le part cut)
-widened_in_a cut part None = refl
-widened_in_a cut part (Some r) = min_within r.first part cut
-
-max_after : (a b n : ℕ) → nat_lt n (max a b) ≡ (nat_lt n a || nat_lt n b)
-max_after a b n = same_answer _ _
-    (λ e. (let h : n < max a b = ltb-true n (max a b) e in elim (cases_Bool (nat_lt n a)) [
-      | inl t ↦ or_left _ _ t
-      | inr f ↦ or_right _ _ (lt-ltb n b (omega (arith, ltb-false n a f)))
-    ]))
-    (λ e. elim (or_cases _ _ e) [
-      | inl t ↦ lt-ltb n (max a b) (let h : n < a = ltb-true n a t in omega arith)
-      | inr t ↦ lt-ltb n (max a b) (let h : n < b = ltb-true n b t in omega arith)
-    ])
-
-widened_in_b : (cut part : ℕ) (r : Option Range) → is_in_b cut (Some (widened r part)) ≡ (is_in_b cut r || nat_lt cut part)
-widened_in_b cut part None = refl
-widened_in_b cut part (Some r) = max_after r.last part cut
+widened_in_a : (cut part : ℕ) (r : Option Range) → is_in_a cut (Some (widened r part)) ≡ (is_in_a cut r || is_on_side_a cut part)
+widened_in_a cut part r = is_in_a-widened cut part r ∙ ap (λ b. is_in_a cut r || b) (on_side_a part cut)
 
 -- one literal more: o is what was noted before the clause, p the test of the part, q whether the clause so far has the variable
 noted_here : (o p q : Bool) → ((o || p && q) || p) ≡ (o || p && (q || true))
@@ -66,6 +48,8 @@ noted_none false false = refl
 pub NotesClause-none : (s : SidesView) (part : ℕ) → NotesClause s [] part s
 NotesClause-none s part = record {
   parts = refl;
+  spanned = λ x has. absurd (let no : false ≡ true = has in cc);
+  kept = λ x other spans. spans;
   in_a = λ cut x. noted_none _ _;
   in_b = λ cut x. noted_none _ _;
 }
@@ -83,10 +67,15 @@ side-push f o p q false old mid new part so wide is same = ap f is ∙ so ∙ no
 pub NotesClause-push : (old mid new : SidesView) (c : Clause) (l : Literal) (part : ℕ) → NotesClause old c part mid → IsNoted mid l.var part new → NotesClause old (c ++ l ∷ []) part new
 NotesClause-push old mid new c l part before noted = record {
   parts = noted.parts ∙ before.parts;
-  in_a = λ cut x. rw (occurs-push x c l) (side-push (is_in_a cut) (occurs_in_a old cut x) (nat_le part cut) (occurs_in_clause x c) (nat_eq x l.var) (range_of mid l.var) (range_of mid x) (range_of new x) part
+  spanned = λ x has. elim (or_cases _ _ (sym (occurs-push x c l) ∙ has)) [
+    | inl earlier ↦ spans_kept mid new l.var part x part noted (before.spanned x earlier)
+    | inr here ↦ (let same : x ≡ l.var = eqb-true x l.var (sym (or-false (nat_eq x l.var)) ∙ here) in subst (λ y. Spans new y part) (sym same) (spans_noted mid new l.var part noted))
+  ];
+  kept = λ x other spans. spans_kept mid new l.var part x other noted (before.kept x other spans);
+  in_a = λ cut x. rw (occurs-push x c l) (side-push (is_in_a cut) (occurs_in_a old cut x) (is_on_side_a cut part) (occurs_in_clause x c) (nat_eq x l.var) (range_of mid l.var) (range_of mid x) (range_of new x) part
       (before.in_a cut x) (widened_in_a cut part (range_of mid x)) (noted.ranges x) (λ e. ap (range_of mid) (sym (eqb-true x l.var e))));
-  in_b = λ cut x. rw (occurs-push x c l) (side-push (is_in_b cut) (occurs_in_b old cut x) (nat_lt cut part) (occurs_in_clause x c) (nat_eq x l.var) (range_of mid l.var) (range_of mid x) (range_of new x) part
-      (before.in_b cut x) (widened_in_b cut part (range_of mid x)) (noted.ranges x) (λ e. ap (range_of mid) (sym (eqb-true x l.var e))));
+  in_b = λ cut x. rw (occurs-push x c l) (side-push (is_in_b cut) (occurs_in_b old cut x) (is_on_side_b cut part) (occurs_in_clause x c) (nat_eq x l.var) (range_of mid l.var) (range_of mid x) (range_of new x) part
+      (before.in_b cut x) (is_in_b-widened cut part (range_of mid x)) (noted.ranges x) (λ e. ap (range_of mid) (sym (eqb-true x l.var e))));
 }
 
 pub NotesClause-more : (old mid new : SidesView) (c : Clause) (i : ℕ) (d : Literal) (part : ℕ) → i < length c → NotesClause old (take i c) part mid → IsNoted mid (get_or c i d).var part new → NotesClause old (take (i + 1) c) part new
@@ -111,19 +100,33 @@ within-push x test cs c =
 pub parted-push : (accepted : List (Part × Clause)) (part : Part) (c : Clause) → parted (accepted ++ (part, c) ∷ []) ≡ parted accepted ++ record { part = part.0; clause = c } ∷ []
 parted-push accepted part c = map-append (λ (a : Part × Clause). record { part = a.0.0; clause = a.1 }) accepted ((part, c) ∷ [])
 
-one_part : (clauses : List PartClause) (c : PartClause) (parts : ℕ) → ((d : PartClause) → Contains clauses d → (1 ≤ d.part) × (d.part ≤ parts)) → 1 ≤ c.part → c.part ≤ parts
-    → (d : PartClause) → Contains (clauses ++ c ∷ []) d → (1 ≤ d.part) × (d.part ≤ parts)
-one_part clauses c parts before low high d h = elim (Contains-append_cases clauses (c ∷ []) d h) [
+one_part : (clauses : List PartClause) (c : PartClause) (parts : ℕ) → ((d : PartClause) → Contains clauses d → d.part ≤ parts) → c.part ≤ parts
+    → (d : PartClause) → Contains (clauses ++ c ∷ []) d → d.part ≤ parts
+one_part clauses c parts before high d h = elim (Contains-append_cases clauses (c ∷ []) d h) [
   | inl old ↦ before d old
-  | inr new ↦ (let is : c ≡ d = Contains-one c d new in subst (λ (e : PartClause). (1 ≤ e.part) × (e.part ≤ parts)) is (low, high))
+  | inr new ↦ (let is : c ≡ d = Contains-one c d new in subst (λ (e : PartClause). e.part ≤ parts) is high)
 ]
 
+-- no clause
+pub AreSidesOf-none : (parts : ℕ) → 1 ≤ parts → AreSidesOf [] (record { parts = parts; ranges = [] })
+AreSidesOf-none parts some = record {
+  is_sides = record { parts = some; ranges = λ x r e. absurd (cc) };
+  parts = λ c here. absurd (omega (arith, here.1));
+  spanned = λ c x here has. absurd (omega (arith, here.1));
+  in_a = λ cut x. refl;
+  in_b = λ cut x. refl;
+}
+
 -- one clause more
-pub AreSidesOf-push : (clauses pushed : List PartClause) (old new : SidesView) (c : PartClause) → AreSidesOf clauses old → NotesClause old c.clause c.part new → IsSides new → 1 ≤ c.part → c.part ≤ old.parts
+pub AreSidesOf-push : (clauses pushed : List PartClause) (old new : SidesView) (c : PartClause) → AreSidesOf clauses old → NotesClause old c.clause c.part new → IsSides new → c.part ≤ old.parts
     → pushed ≡ clauses ++ c ∷ [] → AreSidesOf pushed new
-AreSidesOf-push clauses pushed old new c before noted sides low high e = rw e record {
+AreSidesOf-push clauses pushed old new c before noted sides high e = rw e record {
   is_sides = sides;
-  parts = one_part clauses c new.parts (rw noted.parts before.parts) low (rw noted.parts high);
-  in_a = λ cut x. noted.in_a cut x ∙ ap (λ b. b || nat_le c.part cut && occurs_in_clause x c.clause) (before.in_a cut x) ∙ sym (within-push x (λ n. nat_le n cut) clauses c);
-  in_b = λ cut x. noted.in_b cut x ∙ ap (λ b. b || nat_lt cut c.part && occurs_in_clause x c.clause) (before.in_b cut x) ∙ sym (within-push x (λ n. nat_lt cut n) clauses c);
+  spanned = λ d x here has. elim (Contains-append_cases clauses (c ∷ []) d here) [
+    | inl old_one ↦ noted.kept x d.part (before.spanned d x old_one has)
+    | inr new_one ↦ (let is : c ≡ d = Contains-one c d new_one in subst (λ (e : PartClause). Spans new x e.part) is (noted.spanned x (ap (λ (e : PartClause). occurs_in_clause x e.clause) is ∙ has)))
+  ];
+  parts = one_part clauses c new.parts (rw noted.parts before.parts) (rw noted.parts high);
+  in_a = λ cut x. noted.in_a cut x ∙ ap (λ b. b || is_on_side_a cut c.part && occurs_in_clause x c.clause) (before.in_a cut x) ∙ sym (within-push x (is_on_side_a cut) clauses c);
+  in_b = λ cut x. noted.in_b cut x ∙ ap (λ b. b || is_on_side_b cut c.part && occurs_in_clause x c.clause) (before.in_b cut x) ∙ sym (within-push x (is_on_side_b cut) clauses c);
 }

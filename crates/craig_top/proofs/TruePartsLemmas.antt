@@ -1,19 +1,21 @@
 -- What sequences of interpolants and failed assumptions say of parts.
-use Rattle.std.proofs.Common.{◌≡◌, ◌∙◌, sym, ap, subst, refl, inl, inr, ℕ, ◌+◌, ◌<◌, ◌≤◌, Bool, true, false, not, ◌&&◌, cond, List, [], ◌∷◌, map, filter, get_or, Contains, Some, slice_get, arith, nat_eq, nat_le, nat_lt, leb-true, ltb-true, eqb-true, IsTrue}
-use Rattle.std.proofs.lemmas.Bool.{and_from, and_parts, cases_order}
-use Rattle.std.proofs.lemmas.List.Elements.{Contains-append_cases}
+use Rattle.std.proofs.Common.{◌≡◌, ◌∙◌, sym, ap, subst, refl, inl, inr, ◌⊎◌, ℕ, zero, suc, length, slice_index, ◌+◌, ◌<◌, ◌≤◌, Bool, true, false, not, ◌&&◌, cond, List, [], ◌∷◌, map, filter, get_or, Contains, Some, slice_get, arith, leb-true, ltb-true, eqb-true, IsTrue}
+use Rattle.std.specs.List.Sorted.{IsStrictlyIncreasing}
+use Rattle.std.proofs.lemmas.Bool.{and_from, and_parts, cases_order, or_cases}
+use Rattle.std.proofs.lemmas.List.Elements.{All-contains, Contains-append_cases}
 use Rattle.std.proofs.lemmas.Option.{get_or_from_slice_get, slice_get-get_or}
 use Rattle.craig_spec.specs.Circuit.{Circuit, circuit_value}
-use Rattle.craig_spec.specs.Cut.{PartClause, PartLiteral, clauses_within, with_units}
+use Rattle.craig_spec.specs.Cut.{PartClause, PartLiteral, clauses_within, is_between, is_on_side_a, is_on_side_b, with_units}
 use Rattle.craig_spec.specs.FailedAssumptions.{NamesFailed}
 use Rattle.craig_spec.specs.Literal.{Literal}
 use Rattle.craig_spec.specs.Occurs.{occurs, occurs_in_clause}
-use Rattle.craig_spec.specs.Sequence.{IsSequence}
+use Rattle.craig_spec.specs.Sequence.{IsOutputAt, IsSequence}
 use Rattle.craig_spec.specs.Truth.{Assignment, IsModel, clause_value}
 use Rattle.craig_spec.proofs.ClauseLemmas.{clause_value-member, occurs_in_clause-find}
 use Rattle.craig_spec.proofs.MemberLemmas.{Contains-from_image, Contains-from_slice_get, Contains-one, Contains-front, Contains-later, list_any-find, slice_get-below, slice_get-from_map, slice_get-to_map}
+use Rattle.craig_itp.proofs.TestLemmas.{is_on_side_a-true, is_on_side_b-true}
 use Rattle.craig_top.proofs.SidesLemmas.{occurs-within}
-use Rattle.craig_top.specs.TrueParts.{AreFirstOnes, AreImplied, AreOfAllCuts, AreRefuted, AreTrueWith, ClausesAreTrue, ClausesHave, FirstPlacesRise, HaveWith, ImplyTheNext, IsFirstAt, ReachSharedVariables}
+use Rattle.craig_top.specs.TrueParts.{AreFirstOnes, AreImplied, AreOfCuts, AreRefuted, AreRisingUpTo, IsLiteralAt, ImplyLaterOnes, AreTrueWith, ClausesAreTrue, ClausesHave, FirstPlacesRise, HaveWith, IsFirstAt, ReachSharedVariables}
 
 -- clauses of parts are true where each one is
 all-within : (s : Assignment) (test : ℕ → Bool) (cs : List PartClause) → ((p : PartClause) → Contains cs p → test p.part ≡ true → clause_value s p.clause ≡ true) → IsModel s (clauses_within test cs)
@@ -36,25 +38,62 @@ is_false : (b : Bool) → not b ≡ true → b ≡ false
 is_false true h = absurd (let no : false ≡ true = h in cc)
 is_false false h = refl
 
-module _ (clauses : List PartClause) (parts : ℕ) (c : Circuit) (literals : List ℕ) (sequence : IsSequence clauses parts c literals) where
-  pub of_all_cuts : AreOfAllCuts parts literals
-  of_all_cuts = (sequence.count, sequence.first, sequence.last)
+-- of rising numbers an earlier one is below a later one
+rising_pairs : (xs : List ℕ) → IsStrictlyIncreasing xs → (i j a b : ℕ) → i < j → slice_get xs i ≡ Some a → slice_get xs j ≡ Some b → a < b
+rising_pairs xs rising i j a b before at_i at_j =
+    let within : j < length xs = slice_get-below xs j b at_j in
+    let less : slice_index xs i < slice_index xs j = strictly_below xs rising i j before within in
+    let first : slice_index xs i ≡ a = get_or_from_slice_get xs i a 0 at_i in
+    let second : slice_index xs j ≡ b = get_or_from_slice_get xs j b 0 at_j in
+    omega arith
+  where
+    strictly_below : (ys : List ℕ) → IsStrictlyIncreasing ys → (k m : ℕ) → k < m → m < length ys → slice_index ys k < slice_index ys m
+    strictly_below ys up k zero less inside = absurd (omega (arith, less))
+    strictly_below ys up k (suc m) less inside = elim (cases_order k m) [
+      | inl same ↦ (let next : slice_index ys m < slice_index ys (m + 1) = up m (omega (arith, inside)) in let e : suc m ≡ m + 1 = omega arith in rw (e, same) next)
+      | inr order ↦ elim order [
+        | inl under ↦ (let one = strictly_below ys up k m under (omega (arith, inside)) in let next : slice_index ys m < slice_index ys (m + 1) = up m (omega (arith, inside)) in let e : suc m ≡ m + 1 = omega arith in rw e (omega (arith, one, next)))
+        | inr above ↦ absurd (omega (arith, less, above))
+      ]
+    ]
 
-  pub are_implied : AreImplied (ClausesAreTrue clauses) c literals
-  are_implied cut l is s holds = (sequence.separate cut l is).implied s (all-within s (λ part. nat_le part cut) clauses (λ p here low. holds p here (leb-true p.part cut low)))
+-- part 0 and the parts between two cuts
+in_between : (cut later part : ℕ) → is_between cut later part ≡ true → (part ≡ 0) ⊎ ((cut < part) × (part ≤ later))
+in_between cut later part h = elim (or_cases _ _ h) [
+  | inl t ↦ inl (eqb-true part 0 t)
+  | inr t ↦ (let both = and_parts _ _ t in inr (ltb-true cut part both.0, leb-true part later both.1))
+]
 
-  pub are_refuted : AreRefuted (ClausesAreTrue clauses) c literals
-  are_refuted cut l is s holds = is_false (circuit_value s c l) ((sequence.separate cut l is).refuted s (all-within s (λ part. nat_lt cut part) clauses (λ p here high. holds p here (ltb-true cut p.part high))))
+module _ (clauses : List PartClause) (parts : ℕ) (cuts : List ℕ) (c : Circuit) (literals : List ℕ) (sequence : IsSequence clauses parts cuts c literals) where
+  output_at : (cut l : ℕ) (at : IsLiteralAt cuts literals cut l) → IsOutputAt cuts literals at.0 cut l
+  output_at cut l at = record { cut_is = at.1; literal_is = at.2 }
 
-  pub reach_shared : ReachSharedVariables (ClausesHave clauses) c literals
-  reach_shared cut l x is here =
-      let both = (sequence.separate cut l is).shared x here in
-      let a = have-within x (λ part. nat_le part cut) clauses both.0 in
-      let b = have-within x (λ part. nat_lt cut part) clauses both.1 in
-      ((a.0, a.1, leb-true (a.0).part cut a.2, a.3, a.4, a.5), (b.0, b.1, ltb-true cut (b.0).part b.2, b.3, b.4, b.5))
+  pub rising_up_to : AreRisingUpTo parts cuts
+  rising_up_to = (
+    sequence.chosen.some,
+    λ i j a b before at_i at_j. rising_pairs cuts sequence.chosen.rising i j a b before at_i at_j,
+    λ cut here. All-contains (λ n. n ≤ parts) cuts cut sequence.chosen.within here,
+  )
 
-  pub imply_next : ImplyTheNext (ClausesAreTrue clauses) c literals
-  imply_next cut l m is next s value holds = sequence.onward cut l m is next s value (all-within s (nat_eq (cut + 1)) clauses (λ p here same. holds p here (sym (eqb-true (cut + 1) p.part same))))
+  pub of_cuts : AreOfCuts parts cuts literals
+  of_cuts = (sequence.count, λ l at. sequence.first at.0 l (output_at 0 l at), λ l at. sequence.last at.0 l (output_at parts l at))
+
+  pub are_implied : AreImplied (ClausesAreTrue clauses) cuts c literals
+  are_implied cut l at s holds = (sequence.separate at.0 cut l (output_at cut l at)).implied s (all-within s (is_on_side_a cut) clauses (λ p here low. holds p here (is_on_side_a-true cut p.part low)))
+
+  pub are_refuted : AreRefuted (ClausesAreTrue clauses) cuts c literals
+  are_refuted cut l at s holds = is_false (circuit_value s c l) ((sequence.separate at.0 cut l (output_at cut l at)).refuted s (all-within s (is_on_side_b cut) clauses (λ p here high. holds p here (is_on_side_b-true cut p.part high))))
+
+  pub reach_shared : ReachSharedVariables (ClausesHave clauses) cuts c literals
+  reach_shared cut l x at here =
+      let both = (sequence.separate at.0 cut l (output_at cut l at)).shared x here in
+      let a = have-within x (is_on_side_a cut) clauses both.0 in
+      let b = have-within x (is_on_side_b cut) clauses both.1 in
+      ((a.0, a.1, is_on_side_a-true cut (a.0).part a.2, a.3, a.4, a.5), (b.0, b.1, is_on_side_b-true cut (b.0).part b.2, b.3, b.4, b.5))
+
+  pub imply_later : ImplyLaterOnes (ClausesAreTrue clauses) cuts c literals
+  imply_later cut later l m at then before s value holds =
+      sequence.onward at.0 then.0 cut later l m (output_at cut l at) (output_at later m then) before s value (all-within s (is_between cut later) clauses (λ p here same. holds p here (in_between cut later p.part same)))
 
 -- ---- with the units of failed assumptions
 
@@ -79,20 +118,21 @@ module _ (accepted : List PartClause) (failed : List PartLiteral) where
         (f, found.1, subst (λ (q : PartClause). IsIn q.part) found.2 inside, ap (λ (m : Literal). m.var) (Contains-one f.literal l alone) ∙ is))
   ]
 
-  module _ (parts : ℕ) (c : Circuit) (ls : List ℕ) (sequence : IsSequence (with_units accepted failed) parts c ls) where
-    pub are_implied-units : AreImplied (AreTrueWith accepted failed) c ls
-    are_implied-units cut l is s holds = are_implied (with_units accepted failed) parts c ls sequence cut l is s (units_hold s (λ part. part ≤ cut) holds)
+  module _ (parts : ℕ) (cuts : List ℕ) (c : Circuit) (ls : List ℕ) (sequence : IsSequence (with_units accepted failed) parts cuts c ls) where
+    pub are_implied-units : AreImplied (AreTrueWith accepted failed) cuts c ls
+    are_implied-units cut l at s holds = are_implied (with_units accepted failed) parts cuts c ls sequence cut l at s (units_hold s (λ part. part ≤ cut) holds)
 
-    pub are_refuted-units : AreRefuted (AreTrueWith accepted failed) c ls
-    are_refuted-units cut l is s holds = are_refuted (with_units accepted failed) parts c ls sequence cut l is s (units_hold s (λ part. cut < part) holds)
+    pub are_refuted-units : AreRefuted (AreTrueWith accepted failed) cuts c ls
+    are_refuted-units cut l at s holds = are_refuted (with_units accepted failed) parts cuts c ls sequence cut l at s (units_hold s (λ part. (part ≡ 0) ⊎ (cut < part)) holds)
 
-    pub reach_shared-units : ReachSharedVariables (HaveWith accepted failed) c ls
-    reach_shared-units cut l x is here =
-        let both = reach_shared (with_units accepted failed) parts c ls sequence cut l x is here in
-        (units_have x (λ part. part ≤ cut) both.0, units_have x (λ part. cut < part) both.1)
+    pub reach_shared-units : ReachSharedVariables (HaveWith accepted failed) cuts c ls
+    reach_shared-units cut l x at here =
+        let both = reach_shared (with_units accepted failed) parts cuts c ls sequence cut l x at here in
+        (units_have x (λ part. part ≤ cut) both.0, units_have x (λ part. (part ≡ 0) ⊎ (cut < part)) both.1)
 
-    pub imply_next-units : ImplyTheNext (AreTrueWith accepted failed) c ls
-    imply_next-units cut l m is next s value holds = imply_next (with_units accepted failed) parts c ls sequence cut l m is next s value (units_hold s (λ part. part ≡ cut + 1) holds)
+    pub imply_later-units : ImplyLaterOnes (AreTrueWith accepted failed) cuts c ls
+    imply_later-units cut later l m at then before s value holds =
+        imply_later (with_units accepted failed) parts cuts c ls sequence cut later l m at then before s value (units_hold s (λ part. (part ≡ 0) ⊎ ((cut < part) × (part ≤ later))) holds)
 
 -- ---- failed assumptions
 

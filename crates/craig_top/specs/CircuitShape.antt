@@ -7,10 +7,11 @@ use Rattle.craig_spec.specs.Truth.{Assignment, variable_value}
 abbrev pub NumbersRise : List ℕ → Type 0
 NumbersRise xs = (i x y : ℕ) → slice_get xs i ≡ Some x → slice_get xs (i + 1) ≡ Some y → x < y
 
--- the literals of the inputs and of the gates, by their places
+-- the literal of an input, by its place
 abbrev pub input_literal : ℕ → ℕ
 input_literal i = 2 * (1 + i)
 
+-- the literal of a gate, by its place
 abbrev pub gate_literal : Circuit → ℕ → ℕ
 gate_literal c j = 2 * (1 + length c.inputs + j)
 

@@ -1,9 +1,15 @@
 -- Which words a line of a script has that is a command.
-use Rattle.std.specs.Prelude.{ℕ, ◌≤◌, List, [], ◌∷◌, ◌++◌, Contains, codes, map, ℤ, ◌≡◌, Ok}
+use Rattle.std.specs.Prelude.{ℕ, ◌≤◌, List, [], ◌∷◌, ◌++◌, Contains, codes, map, ℤ, pos, ◌≡◌, ◌≢◌, Ok}
+use Rattle.std.specs.List.Sorted.{IsStrictlyIncreasing}
 use Rattle.std.specs.Fmt.{decimal, signed_decimal}
 use Rattle.std.specs.Int.RustNames.{unsigned_abs}
 use Rattle.craig_script.specs.declared.line.Line.TheVariants.{Text}
-use Rattle.craig_script.specs.declared.command.Command.TheVariants.{Add, Solve}
+use Rattle.craig_script.specs.declared.cut_word.CutWord.TheVariants as cut
+use Rattle.craig_script.specs.declared.setting_words.MarkWord.{MarkWord}
+use Rattle.craig_script.specs.declared.setting_words.MarkWord.TheVariants as mark
+use Rattle.craig_script.specs.declared.setting_words.SystemWord.{SystemWord}
+use Rattle.craig_script.specs.declared.setting_words.SystemWord.TheVariants as system
+use Rattle.craig_script.specs.declared.command.Command.TheVariants.{Parts, Add, System, Mark, Cuts, Solve}
 use Rattle.craig_top.specs.GivenState.{State, reading}
 
 -- the words that add the clause of these numbers to the part
@@ -14,9 +20,64 @@ add_words part lits = codes "add" ∷ (decimal part ∷ (map signed_decimal lits
 abbrev pub solve_words : List (List ℕ)
 solve_words = codes "solve" ∷ (codes "0" ∷ [])
 
--- the part is one of so many, and each variable is from 1 to 2147483647
+-- the part is from 0 to so many, and each variable is from 1 to 2147483647
 abbrev pub AreInRange : ℕ → ℕ → List ℤ → Type 0
-AreInRange parts part lits = (1 ≤ part) × (part ≤ parts) × ((z : ℤ) → Contains lits z → (1 ≤ unsigned_abs z) × (unsigned_abs z ≤ 2147483647))
+AreInRange parts part lits = (part ≤ parts) × ((z : ℤ) → Contains lits z → (1 ≤ unsigned_abs z) × (unsigned_abs z ≤ 2147483647))
+
+-- the words that set the number of parts
+abbrev pub parts_words : ℕ → List (List ℕ)
+parts_words n = codes "parts" ∷ (decimal n ∷ [])
+
+-- the word for a system
+abbrev pub system_word : SystemWord → List ℕ
+system_word system.McMillan = codes "mcmillan"
+system_word system.Pudlak = codes "pudlak"
+system_word system.Inverse = codes "inverse"
+system_word system.Dual = codes "dual"
+system_word system.Marks = codes "marks"
+system_word system.All = codes "all"
+
+-- the words that set a system
+abbrev pub system_words : SystemWord → List (List ℕ)
+system_words s = codes "system" ∷ (system_word s ∷ [])
+
+-- the word for a mark
+abbrev pub mark_word : MarkWord → List ℕ
+mark_word mark.A = codes "a"
+mark_word mark.Ab = codes "ab"
+mark_word mark.B = codes "b"
+
+-- the words that mark a variable
+abbrev pub mark_words : ℕ → MarkWord → List (List ℕ)
+mark_words name m = codes "mark" ∷ (decimal name ∷ (mark_word m ∷ []))
+
+-- the words that choose all cuts
+abbrev pub all_cuts_words : List (List ℕ)
+all_cuts_words = codes "cuts" ∷ (codes "all" ∷ [])
+
+-- the words that choose these cuts
+abbrev pub cuts_words : List ℤ → List (List ℕ)
+cuts_words cuts = codes "cuts" ∷ map signed_decimal cuts
+
+-- each cut is above the one before it, and at most the number of parts
+abbrev pub AreRisingCuts : ℕ → List ℤ → Type 0
+AreRisingCuts parts cuts = (cuts ≢ []) × IsStrictlyIncreasing (map unsigned_abs cuts) × ((z : ℤ) → Contains cuts z → (n : ℕ) × (z ≡ pos n) × (n ≤ parts))
+
+-- what is said holds of each line that is read in a state as the number of parts: of the state, the bytes and the number
+abbrev pub EachPartsLine : (State → List ℕ → ℕ → Type 0) → Type 0
+EachPartsLine Says = (state : State) (bytes : List ℕ) (n : ℕ) → reading state (Text bytes) ≡ Ok (Parts n) → Says state bytes n
+
+-- and as a system: of the bytes and the system
+abbrev pub EachSystemLine : (List ℕ → SystemWord → Type 0) → Type 0
+EachSystemLine Says = (state : State) (bytes : List ℕ) (s : SystemWord) → reading state (Text bytes) ≡ Ok (System s) → Says bytes s
+
+-- and as a mark: of the bytes, the variable and the mark
+abbrev pub EachMarkLine : (List ℕ → ℕ → MarkWord → Type 0) → Type 0
+EachMarkLine Says = (state : State) (bytes : List ℕ) (name : ℕ) (m : MarkWord) → reading state (Text bytes) ≡ Ok (Mark name m) → Says bytes name m
+
+-- and as chosen cuts: of the state, the bytes and the cuts
+abbrev pub EachCutsLine : (State → List ℕ → List ℤ → Type 0) → Type 0
+EachCutsLine Says = (state : State) (bytes : List ℕ) (cuts : List ℤ) → reading state (Text bytes) ≡ Ok (Cuts (cut.Chosen cuts)) → Says state bytes cuts
 
 -- what is said holds of each line that is read in a state as an addition: of the state, the bytes, the part and the numbers
 abbrev pub EachAddLine : (State → List ℕ → ℕ → List ℤ → Type 0) → Type 0

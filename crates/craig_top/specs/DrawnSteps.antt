@@ -13,6 +13,7 @@ use Rattle.craig_script.specs.declared.command.Command.TheVariants.{Solve}
 use Rattle.craig_top.specs.GivenState.{State}
 use Rattle.craig_top.specs.LastRefutation.{IsOfLastRoot, IsRefutationBy, ReadingIsByLastRoot, SessionView}
 use Rattle.craig_top.specs.Reply.{assumptions_of}
+use Rattle.craig_top.specs.TrueParts.{IsLiteralAt}
 
 -- the clauses clash on the literal, and on no other
 abbrev pub ClashOnlyOn : Literal → Clause → Clause → Type 0
@@ -70,8 +71,8 @@ abbrev pub EndInTheEmptyClause : List ToldStep → ℕ → Type 0
 EndInTheEmptyClause steps root = (k : ℕ) × (last : ToldStep) × (length steps ≡ k + 1) × (slice_get steps k ≡ Some last) × (last.id ≡ root) × (last.literals ≡ [])
 
 -- between the outer cuts each literal has, under every assignment, the value that the labelled rules give the root, step by step
-abbrev pub AreByTheRules : List PartClause → ℕ → List ToldStep → ℕ → Circuit → (ℕ → Label) → List ℕ → Type 0
-AreByTheRules clauses parts steps root c marks literals = (cut l : ℕ) → 1 ≤ cut → cut < parts → slice_get literals cut ≡ Some l → (s : Assignment) (value : ℕ → Bool)
+abbrev pub AreByTheRules : List PartClause → ℕ → List ℕ → List ToldStep → ℕ → Circuit → (ℕ → Label) → List ℕ → Type 0
+AreByTheRules clauses parts cuts steps root c marks literals = (cut l : ℕ) → 1 ≤ cut → cut < parts → IsLiteralAt cuts literals cut l → (s : Assignment) (value : ℕ → Bool)
     → ((step : ToldStep) → Contains steps step → value step.id ≡ origin_value (occurrence_labelling clauses cut marks) s value step.literals step.origin) → circuit_value s c l ≡ value root
 
 -- the steps are the kept ones that the root needs, over the variables of the script, and no other
@@ -87,8 +88,8 @@ abbrev pub IsEmptyOne : List ToldStep → Option ℕ → Type 0
 IsEmptyOne kept root = (k : ToldStep) × Contains kept k × (root ≡ Some k.id) × (k.literals ≡ [])
 
 -- the literals of each system are by the rules of its labels
-abbrev pub AllAreByTheRules : List PartClause → ℕ → List ToldStep → ℕ → Circuit → List MarkedLiterals → Type 0
-AllAreByTheRules clauses parts steps root c systems = (system : MarkedLiterals) → Contains systems system → AreByTheRules clauses parts steps root c system.marks system.literals
+abbrev pub AllAreByTheRules : List PartClause → ℕ → List ℕ → List ToldStep → ℕ → Circuit → List MarkedLiterals → Type 0
+AllAreByTheRules clauses parts cuts steps root c systems = (system : MarkedLiterals) → Contains systems system → AreByTheRules clauses parts cuts steps root c system.marks system.literals
 
 -- the text refutes the clauses of the state and these literals, by the last root of the session
 abbrev pub IsRefutingBy : SessionView → State → List (ℕ × ℤ) → List ℕ → Type 0
@@ -103,10 +104,10 @@ abbrev pub EachRefutation : (List PartClause → List ToldStep → ℕ → Type 
 EachRefutation Says = (clauses : List PartClause) (steps : List ToldStep) (root : ℕ) → IsRefutationOf clauses steps root → Says clauses steps root
 
 -- what is said holds of all literals drawn from one refutation: of the clauses, the circuit, the steps, their root, and the systems of literals
-abbrev pub EachDrawn : (List PartClause → ℕ → Circuit → List ToldStep → ℕ → List MarkedLiterals → Type 0) → Type 0
+abbrev pub EachDrawn : (List PartClause → ℕ → List ℕ → Circuit → List ToldStep → ℕ → List MarkedLiterals → Type 0) → Type 0
 EachDrawn Says =
-    (clauses : List PartClause) (parts : ℕ) (c : Circuit) (systems : List MarkedLiterals) (drawn : DrawnFromOneRefutation clauses parts c systems)
-    → Says clauses parts c drawn.steps drawn.root systems
+    (clauses : List PartClause) (parts : ℕ) (cuts : List ℕ) (c : Circuit) (systems : List MarkedLiterals) (drawn : DrawnFromOneRefutation clauses parts cuts c systems)
+    → Says clauses parts cuts c drawn.steps drawn.root systems
 
 -- what is said holds of all steps of the last root of a session: of its names, its kept steps, its last root, the steps, and their root
 abbrev pub EachLastRoot : (List ℕ → List ToldStep → Option ℕ → List ToldStep → ℕ → Type 0) → Type 0

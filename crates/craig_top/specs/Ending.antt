@@ -1,5 +1,6 @@
 -- What a run of a script has read and put when it ends.
 use Rattle.std.specs.Prelude.{◌≡◌, ℕ, ◌<◌, ◌≤◌, List, [], ◌++◌, length, map, Option, Some, ◌⊎◌}
+use Rattle.craig_io.specs.Faults.{Rose}
 use Rattle.craig_script.specs.declared.line.Line.{Line}
 use Rattle.craig_script.specs.Lines.{line_of, whole_lines, script_lines}
 use Rattle.craig_top.specs.declared.settings.Settings.{Settings}
@@ -44,3 +45,8 @@ Promise settings bound status left_before left_after held_before held_after =
 abbrev pub EndsDone : (bound : ℕ) → Status → (left_before : Option (List ℕ)) → (read_failed write_failed : Type 0) → Type 0
 EndsDone bound status left_before read_failed write_failed =
     (all : List ℕ) → left_before ≡ Some all → length all < bound → ¬ read_failed → ¬ write_failed → (status ≡ Done) ⊎ (status ≡ NoMemory)
+
+-- the same where the counts of failed reads and of failed writes tell whether one failed
+abbrev pub EndsDoneIfQuiet : {R W : Type 0} → (bound : ℕ) → Status → (left_before : Option (List ℕ)) → (R → ℕ) → (source_before source_after : R) → (W → ℕ) → (sink_before sink_after : W) → Type 0
+EndsDoneIfQuiet bound status left_before reads source_before source_after writes sink_before sink_after =
+    EndsDone bound status left_before (Rose (reads source_before) (reads source_after)) (Rose (writes sink_before) (writes sink_after))

@@ -5,7 +5,7 @@ use Rattle.craig_spec.specs.Cut.{PartLiteral}
 use Rattle.craig_spec.specs.Needed.{IsNeededPart}
 use Rattle.craig_script.specs.declared.line.Line.{Line}
 use Rattle.craig_script.specs.declared.command.Command.{Command}
-use Rattle.craig_script.specs.declared.command.Command.TheVariants.{Nothing, Add, Solve}
+use Rattle.craig_script.specs.declared.command.Command.TheVariants.{Nothing, Parts, Add, System, Mark, Cuts, Solve}
 use Rattle.craig_script.specs.declared.refusal.Refusal.{Refusal}
 use Rattle.craig_top.specs.GivenState.{State, reading}
 use Rattle.craig_top.specs.Named.{named_step}
@@ -42,7 +42,7 @@ pub record IsOfLastRoot (names : List ℕ) (kept : List ToldStep) (last : Option
 
 -- the reply refutes, and its interpolants are drawn from the steps that the last root needs
 abbrev pub IsRefutationBy : (names : List ℕ) → (kept : List ToldStep) → (last : Option ℕ) → State → List PartLiteral → List ℕ → Type 0
-IsRefutationBy names kept last state assumptions text = (reply : IsRefutationReply state assumptions text) × IsOfLastRoot names kept last reply.drawn.steps reply.drawn.root
+IsRefutationBy names kept last state assumptions text = (reply : IsRefutationReply state assumptions text) × IsOfLastRoot names kept last reply.gives.interpolants.drawn.steps reply.gives.interpolants.drawn.root
 
 -- the reply gives a model, or so refutes
 abbrev pub IsSolveReplyBy : (names : List ℕ) → (kept : List ToldStep) → (last : Option ℕ) → State → List (ℕ × ℤ) → List ℕ → Type 0
@@ -51,7 +51,11 @@ IsSolveReplyBy names kept last state pairs text = GivesModel state pairs text �
 -- the reply to a solve is such a verdict
 abbrev pub IsByLastRoot : SessionView → State → Command → List ℕ → Type 0
 IsByLastRoot view state Nothing text = Unit {0}
+IsByLastRoot view state (Parts n) text = Unit {0}
 IsByLastRoot view state (Add part lits) text = Unit {0}
+IsByLastRoot view state (System system) text = Unit {0}
+IsByLastRoot view state (Mark name mark) text = Unit {0}
+IsByLastRoot view state (Cuts cuts) text = Unit {0}
 IsByLastRoot view state (Solve pairs) text = IsSolveReplyBy view.names view.steps view.root state pairs text
 
 -- so is the reply to a line that is a solve

@@ -1,4 +1,6 @@
 pub mod Appended
+pub mod AsRead
+pub mod Blocks
 pub mod CircuitShape
 pub mod CommandLines
 pub mod CutLayout
@@ -10,6 +12,7 @@ pub mod GivenState
 pub mod Growth
 pub mod LastRefutation
 pub mod ListedLiterals
+pub mod Material
 pub mod ModelReply
 pub mod Named
 pub mod Naming
@@ -20,6 +23,7 @@ pub mod RefutationReply
 pub mod Reply
 pub mod ReplyContents
 pub mod ReplyTexts
+pub mod RestsOn
 pub mod Sides
 pub mod StartingSettings
 pub mod Statuses
@@ -28,5 +32,6 @@ pub mod Stored
 pub mod StoredReplies
 pub mod Transcript
 pub mod TrueParts
-pub mod Unassuming
 pub mod Values
+pub mod WrittenOutputs
+pub mod WrittenSystems

@@ -4,7 +4,7 @@ use Rattle.craig_spec.specs.Literal.{Literal, Clause}
 use Rattle.craig_spec.specs.Cut.{PartLiteral}
 use Rattle.craig_script.specs.declared.line.Line.{Line}
 use Rattle.craig_script.specs.declared.command.Command.{Command}
-use Rattle.craig_script.specs.declared.command.Command.TheVariants.{Nothing, Add, Solve}
+use Rattle.craig_script.specs.declared.command.Command.TheVariants.{Nothing, Parts, Add, System, Mark, Cuts, Solve}
 use Rattle.craig_script.specs.declared.refusal.Refusal.{Refusal}
 use Rattle.craig_top.specs.GivenState.{State, given_clauses, script_literal, reading}
 use Rattle.craig_top.specs.ModelReply.{IsModelReply}
@@ -30,7 +30,11 @@ IsSolveReply state pairs text = GivesModel state pairs text ⊎ IsRefutationRepl
 -- the text is allowed as the reply to a command
 abbrev pub RepliesTo : State → Command → List ℕ → Type 0
 RepliesTo state Nothing text = text ≡ []
+RepliesTo state (Parts n) text = text ≡ ok_text
 RepliesTo state (Add part lits) text = text ≡ ok_text
+RepliesTo state (System system) text = text ≡ ok_text
+RepliesTo state (Mark name mark) text = text ≡ ok_text
+RepliesTo state (Cuts cuts) text = text ≡ ok_text
 RepliesTo state (Solve pairs) text = IsSolveReply state pairs text
 
 -- a refused line is answered by its number

@@ -1,9 +1,10 @@
 -- The texts of replies, byte by byte.
-use Rattle.std.specs.Prelude.{ℕ, List, [], ◌++◌, length, codes, decimal, if◌then◌else◌}
+use Rattle.std.specs.Prelude.{ℕ, List, [], ◌++◌, codes, decimal, if◌then◌else◌}
 use Rattle.std.specs.List.{flat_map}
 use Rattle.craig_spec.specs.Literal.{Literal}
 use Rattle.craig_script.specs.declared.refusal.Refusal.{Refusal}
 use Rattle.craig_script.specs.Refusals.{number_of_refusal}
+use Rattle.craig_top.specs.Blocks.{Block, blocks_text}
 
 -- a literal as it is printed, with a minus sign where it is negated
 abbrev pub literal_text : Literal → List ℕ
@@ -17,9 +18,13 @@ literals_text literals = flat_map (λ l. literal_text l ++ codes " ") literals +
 abbrev pub satisfiable_text : List Literal → List ℕ
 satisfiable_text literals = codes "s SATISFIABLE\nv " ++ literals_text literals
 
--- the reply where there is no model: the literals of the failed assumptions, the number of bytes, and then these bytes
-abbrev pub unsatisfiable_text : List Literal → List ℕ → List ℕ
-unsatisfiable_text failed bytes = codes "s UNSATISFIABLE\nf " ++ literals_text failed ++ codes "a " ++ decimal (length bytes) ++ codes "\n" ++ bytes
+-- the beginning of the reply where there is no model: the literals of the failed assumptions
+abbrev pub failed_text : List Literal → List ℕ
+failed_text failed = codes "s UNSATISFIABLE\nf " ++ literals_text failed
+
+-- the reply where there is no model: the literals of the failed assumptions, and then the blocks
+abbrev pub unsatisfiable_text : List Literal → List Block → List ℕ
+unsatisfiable_text failed blocks = failed_text failed ++ blocks_text blocks
 
 -- the reply to a line that is refused
 abbrev pub refusal_text : Refusal → List ℕ

@@ -1,22 +1,47 @@
 -- How a session keeps the given state.
-use Rattle.std.specs.Prelude.{ℕ, ◌≤◌, Bool, List, length, map}
+use Rattle.std.specs.Prelude.{◌≡◌, Ok, ℕ, ◌≤◌, Bool, List, length, map, Option, Some, None}
+use Rattle.std.specs.Option.{option_map}
+use Rattle.craig_spec.specs.Cut.{AreChosenCuts, all_cuts}
+use Rattle.craig_spec.specs.PartialInterpolant.{Label}
 use Rattle.craig_spec.specs.Literal.{Clause}
 use Rattle.craig_base.specs.declared.script_part.Part.{Part}
 use Rattle.craig_label.specs.Sides.{SidesView}
+use Rattle.craig_script.specs.declared.command.Command.{Command}
+use Rattle.craig_script.specs.Reading.{admitted}
+use Rattle.craig_label.specs.Marks.{label_of}
+use Rattle.craig_label.specs.declared.mark.Mark.{Mark}
+use Rattle.craig_top.specs.declared.choices.Choices.{Choices}
 use Rattle.craig_top.specs.declared.stored.Stored.{Stored}
-use Rattle.craig_top.specs.GivenState.{State}
+use Rattle.craig_top.specs.GivenState.{ScriptSettings, State, any_clause}
 use Rattle.craig_top.specs.LastRefutation.{SessionView}
 use Rattle.craig_top.specs.Naming.{written}
 use Rattle.craig_top.specs.Sides.{AreSidesOf, parted}
 use Rattle.craig_top.specs.Values.{AreOver}
 
--- the given state that the parts, the names and the dense clauses are
-abbrev pub stored_state : ℕ → List ℕ → List (Part × Clause) → State
-stored_state parts names accepted = record { parts = parts; accepted = written names accepted }
+-- the given state that the settings, the names and the dense clauses are
+abbrev pub stored_state : ScriptSettings → List ℕ → List (Part × Clause) → State
+stored_state settings names accepted = record { settings = settings; accepted = written names accepted }
+
+-- the cuts that are written: all, where none is chosen
+abbrev pub written_cuts : ℕ → Option (List ℕ) → List ℕ
+written_cuts parts None = all_cuts parts
+written_cuts parts (Some cuts) = cuts
+
+-- the marks as labels
+abbrev pub labels : List (ℕ × Mark) → List (ℕ × Label)
+labels marks = map (λ (m : ℕ × Mark). (m.0, label_of m.1)) marks
+
+-- the settings of so many parts and these choices
+abbrev pub settings_of : ℕ → Choices → ScriptSettings
+settings_of parts c = record { parts = parts; system = c.system; marks = labels c.marks.items; cuts = written_cuts parts (option_map (λ cuts. cuts.items) c.cuts) }
 
 -- the given state of what is stored
 abbrev pub given_state : Stored → State
-given_state s = stored_state s.sides.parts s.names s.solver.accepted
+given_state s = stored_state (settings_of s.sides.parts s.choices) s.names s.solver.accepted
+
+-- the command passes the tests on what it names
+abbrev pub IsAdmitted : Stored → Command → Type 0
+IsAdmitted s command = admitted s.sides.parts (any_clause (written s.names s.solver.accepted)) command ≡ Ok tt
 
 -- what a session is seen as that stores this, and whether it is dead
 abbrev pub seen : Stored → Bool → SessionView
@@ -36,5 +61,8 @@ pub record AreStoredTogether (names : List ℕ) (sides : SidesView) (accepted : 
   pub known : vars ≤ length names
 
 -- what holds of what is stored, unless a call wanted memory in vain
-abbrev pub IsKept : Stored → Type 0
-IsKept s = AreStoredTogether s.names s.sides s.solver.accepted s.solver.vars
+pub record IsKept (s : Stored) : Type 0 where
+  -- the clauses, names, sides and known variables belong together
+  pub together : AreStoredTogether s.names s.sides s.solver.accepted s.solver.vars
+  -- the cuts that are written rise, and are of the parts
+  pub chosen : AreChosenCuts s.sides.parts (settings_of s.sides.parts s.choices).cuts

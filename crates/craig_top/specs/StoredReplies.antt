@@ -1,9 +1,9 @@
 -- Which replies are drawn from what a session stores.
 use Rattle.std.specs.Prelude.{◌≡◌, ℕ, ◌++◌, List, [], map, Some, false}
+use Rattle.craig_spec.specs.Cut.{PartLiteral}
+use Rattle.craig_spec.specs.FailedAssumptions.{NamesFailed}
 use Rattle.craig_spec.specs.Literal.{Literal, Clause}
 use Rattle.craig_base.specs.declared.script_part.Part.{Part}
-use Rattle.craig_label.specs.Sides.{SidesView}
-use Rattle.craig_proof.specs.ChainStore.{ChainStoreView}
 use Rattle.craig_script.specs.declared.line.Line.{Line}
 use Rattle.craig_script.specs.declared.command.Command.{Command}
 use Rattle.craig_solver.specs.declared.answer.Answer.{Answer}
@@ -11,10 +11,11 @@ use Rattle.craig_solver.specs.Answer.{root_of_answer}
 use Rattle.craig_top.specs.declared.stored.Stored.{Stored}
 use Rattle.craig_top.specs.GivenState.{reading}
 use Rattle.craig_top.specs.LastRefutation.{IsRefutationBy, IsSolveReplyBy, IsByLastRoot, ReadingIsByLastRoot}
+use Rattle.craig_top.specs.Material.{MaterialView, state_of}
 use Rattle.craig_top.specs.ModelReply.{IsModelReply}
-use Rattle.craig_top.specs.Naming.{named_clause}
+use Rattle.craig_top.specs.Naming.{named_assumptions, named_clause}
 use Rattle.craig_top.specs.ReplyTexts.{satisfiable_text}
-use Rattle.craig_top.specs.Stored.{stored_state, given_state, seen}
+use Rattle.craig_top.specs.Stored.{given_state, seen}
 
 -- where the line is a solve, the reply gives a model of what was stored before it, or refutes that by the last root that is stored after it
 abbrev pub IsLineReplyStored : (before later : Stored) → Line → List ℕ → Type 0
@@ -29,12 +30,12 @@ abbrev pub IsSolveReplyStored : (before later : Stored) → List ℕ → Type 0
 IsSolveReplyStored before later = IsSolveReplyBy later.names later.solver.tracer.told.steps later.solver.root (given_state before) []
 
 -- the reply gives a model of the clauses, or refutes them by the root of the answer
-abbrev pub IsAnswerReply : List ℕ → List (Part × Clause) → SidesView → ChainStoreView → Answer → List ℕ → Type 0
-IsAnswerReply names clauses sides store answer = IsSolveReplyBy names store.told.steps (root_of_answer answer) (stored_state sides.parts names clauses) []
+abbrev pub IsAnswerReply : MaterialView → Answer → List ℕ → Type 0
+IsAnswerReply m answer = IsSolveReplyBy m.names m.told.steps (root_of_answer answer) (state_of m) []
 
--- the reply refutes the clauses by the root
-abbrev pub IsRootReply : List ℕ → List (Part × Clause) → SidesView → ChainStoreView → (root : ℕ) → List ℕ → Type 0
-IsRootReply names clauses sides store root = IsRefutationBy names store.told.steps (Some root) (stored_state sides.parts names clauses) []
+-- the reply refutes the clauses under any assumptions of which these failed, by the root
+abbrev pub IsRootReply : MaterialView → (root : ℕ) → List ℕ → Type 0
+IsRootReply m root text = (assumptions : List PartLiteral) → NamesFailed assumptions (named_assumptions m.names m.failed) → IsRefutationBy m.names m.told.steps (Some root) (state_of m) assumptions text
 
 -- the reply with a model of the clauses came behind what was there
 abbrev pub AppendsModel : List ℕ → List (Part × Clause) → (old new : List ℕ) → Type 0

@@ -20,7 +20,8 @@ pub use refutations::{
     values_from_one_refutation,
 };
 pub use replies::{
-    contents_of_a_refutation, printed_literals, replies_to_lines, states_after_lines,
-    texts_of_circuits,
+    contents_of_a_refutation, interpolants_of_a_refutation, labels_of_marks, printed_literals,
+    replies_to_lines, states_after_lines, systems_of_words, texts_of_circuits,
+    three_systems_by_strength,
 };
 pub use runs::{bytes_taken, replies_of_a_transcript, replies_put, runs_end_done};

@@ -7,8 +7,10 @@
 //! cuts by Pudlák's system, which `craig_itp` draws from the kept refutation and `craig_aiger` writes as one circuit.
 #![tactic(auto)]
 
+mod choices;
 mod clause;
 pub mod laws;
+mod material;
 mod model;
 mod refutation;
 mod reply;
@@ -26,6 +28,3 @@ pub use session::Session;
 pub use settings::Settings;
 pub use status::Status;
 pub use top_call::craig_top;
-
-#[cfg(test)]
-mod tests;

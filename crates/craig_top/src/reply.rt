@@ -4,7 +4,8 @@ ghost use Rattle.std.specs.Prelude.{◌≡◌, ◌≤◌, ◌+◌, ◌++◌, cod
 ghost use Rattle.craig_aiger.specs.AsciiText.{aag_text};
 ghost use Rattle.craig_aiger.specs.RoundTrip.{ReadsAs};
 ghost use Rattle.craig_top.specs.Appended.{AppendsOnly};
-ghost use Rattle.craig_top.specs.ReplyTexts.{literal_text, literals_text, satisfiable_text, unsatisfiable_text, ok_text, refusal_text};
+ghost use Rattle.craig_top.specs.Blocks.{lined_bytes};
+ghost use Rattle.craig_top.specs.ReplyTexts.{literal_text, literals_text, failed_text, satisfiable_text, ok_text, refusal_text};
 
 use craig_aiger::{Form, Layout};
 use craig_base::Lit;
@@ -35,19 +36,23 @@ pub fn append_model(out: &mut Vec<u8>, literals: &[Lit]) -> Result<(), AllocErro
     Ok(())
 }
 
-/// The reply where there is no model: the literals of the failed assumptions, over script variables, and the text of a
-/// circuit behind the number of its bytes.
-pub fn append_unsatisfiable(
-    out: &mut Vec<u8>,
-    failed: &[Lit],
-    circuit: &Layout,
-) -> Result<(), AllocError>
-    ensures text { OnOk result (out.new.items ≡ out.old.items ++ unsatisfiable_text failed.now (aag_text circuit.now)) }
-    ensures reads_back { OnOk result (ReadsAs circuit.now (aag_text circuit.now)) }
+/// The beginning of the reply where there is no model: the literals of the failed assumptions, over script variables.
+/// The blocks come behind it.
+pub fn append_unsatisfiable(out: &mut Vec<u8>, failed: &[Lit]) -> Result<(), AllocError>
+    ensures text { OnOk result (out.new.items ≡ out.old.items ++ failed_text failed.now) }
     ensures appends { AppendsOnly out.old.items out.new.items }
 {
     out.extend_from_slice(b"s UNSATISFIABLE\nf ")?;
     append_literals(out, failed)?;
+    Ok(())
+}
+
+/// The block of the interpolants: the text of their circuit, behind the letter and the number of its bytes.
+pub fn append_interpolants(out: &mut Vec<u8>, circuit: &Layout) -> Result<(), AllocError>
+    ensures text { OnOk result (out.new.items ≡ out.old.items ++ lined_bytes (codes "a") (aag_text circuit.now)) }
+    ensures reads_back { OnOk result (ReadsAs circuit.now (aag_text circuit.now)) }
+    ensures appends { AppendsOnly out.old.items out.new.items }
+{
     append_size(out, circuit.size_of(Form::Aag))?;
     circuit.write_aag(out)
 }

@@ -5,13 +5,12 @@
 //! newline was read: that is the invariant. How long a read or a write takes is not promised.
 
 ghost use Rattle.std.specs.Prelude.{◌≡◌, ◌≢◌, ℕ, ◌<◌, ◌≤◌, ◌+◌, List, [], false, length, vec_len, Option, Some, Err, OnOk, IfOk, IfErr, OnErr};
-ghost use Rattle.craig_io.specs.Faults.{Rose};
 ghost use Rattle.craig_script.specs.Lines.{fed, ended};
 ghost use Rattle.craig_top.specs.StartingSettings.{starting_settings};
 ghost use Rattle.craig_top.specs.GivenState.{start, after};
 ghost use Rattle.craig_top.specs.Emptied.{emptied};
 ghost use Rattle.craig_top.specs.Faults.{CountsFaults};
-ghost use Rattle.craig_top.specs.Ending.{Promise, EndsDone};
+ghost use Rattle.craig_top.specs.Ending.{Promise, EndsDoneIfQuiet};
 ghost use Rattle.craig_top.specs.StopStatus.{status_of};
 ghost use Rattle.craig_top.specs.declared.settings.Settings.{Settings};
 
@@ -208,7 +207,7 @@ pub fn run_script<R: Source, W: Sink>(
     ensures no_usage { result ≢ Status.Usage }
     ensures read_fault { CountsFaults (result ≡ Status.ReadFault) (R.faults source.old) (R.faults source.new) }
     ensures write_fault { CountsFaults (result ≡ Status.WriteFault) (W.faults sink.old) (W.faults sink.new) }
-    ensures complete { EndsDone bound result (R.remaining source.old) (Rose (R.faults source.old) (R.faults source.new)) (Rose (W.faults sink.old) (W.faults sink.new)) }
+    ensures complete { EndsDoneIfQuiet bound result (R.remaining source.old) R.faults source.old source.new W.faults sink.old sink.new }
 {
     let Ok(mut buffer) = zeroed(alloc, READ_SIZE) else {
         return Status::NoMemory;

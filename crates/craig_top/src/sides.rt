@@ -10,8 +10,7 @@ use std::alloc::AllocError;
 
 /// Notes each variable of a clause in its part. After an error some of them may be noted.
 pub fn note_clause(sides: &mut Sides, part: Part, clause: &[Lit]) -> Result<(), AllocError>
-    requires first { 1 ≤ part.0 }
-    requires last { part.0 ≤ sides.old.parts }
+    requires { part.0 ≤ sides.old.parts }
     ensures noted { OnOk result (NotesClause sides.old clause.now part.0 sides.new) }
     ensures is_sides { IsSides sides.new }
     ensures parts { sides.new.parts ≡ sides.old.parts }

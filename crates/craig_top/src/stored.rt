@@ -3,24 +3,26 @@
 ghost use Rattle.std.specs.Prelude.{◌≡◌, ◌≤◌, ℕ, [], ◌++◌, false, List, None, IsTrue, map, Ok, OnOk, OnErr, IfOk};
 ghost use Rattle.std.specs.List.{list_all};
 ghost use Rattle.std.specs.Int.RustNames.{unsigned_abs};
-ghost use Rattle.craig_script.specs.Reading.{IsParsedAs, admitted, is_within, variable_limit};
+ghost use Rattle.craig_script.specs.Reading.{IsParsedAs, is_within, part_limit, variable_limit};
 ghost use Rattle.craig_script.specs.declared.command.Command.{Command};
 ghost use Rattle.craig_top.specs.Appended.{AppendsOnly, AppendsText};
-ghost use Rattle.craig_top.specs.GivenState.{reading, next, obeyed};
+ghost use Rattle.craig_top.specs.GivenState.{reading, next, obeyed, unmarked};
 ghost use Rattle.craig_top.specs.LastRefutation.{view_before_lines};
 ghost use Rattle.craig_top.specs.Reply.{Reply, RepliesTo};
-ghost use Rattle.craig_top.specs.Stored.{IsKept, given_state, seen};
+ghost use Rattle.craig_top.specs.Stored.{IsAdmitted, IsKept, given_state, seen};
 ghost use Rattle.craig_top.specs.StoredReplies.{IsLineReplyStored, IsCommandReplyStored, IsSolveReplyStored};
-ghost use Rattle.craig_top.specs.Unassuming.{IsUnassuming};
+ghost use Rattle.craig_top.specs.AsRead.{IsAsRead};
 
+use crate::choices::{Choices, chosen_cuts, mark_of};
 use crate::clause::dense_clause;
+use crate::material::Material;
 use crate::reply::{OK_SIZE, append_ok, append_refusal};
 use crate::sides::note_clause;
 use crate::verdict::append_verdict;
 use craig_base::{Names, Part};
 use craig_label::Sides;
 use craig_proof::ChainStore;
-use craig_script::{Command, Line, LineFault, admit, parse};
+use craig_script::{Command, CutWord, Line, LineFault, SystemWord, admit, parse};
 use craig_solver::Solver;
 use std::alloc::{AllocError, Global};
 
@@ -33,6 +35,8 @@ pub struct Stored {
     pub names: Names,
     /// The sides of the accepted clauses, over the dense variables, and the number of parts.
     pub sides: Sides,
+    /// What the commands have set.
+    pub choices: Choices,
     /// The accepted clauses over the dense variables, and the refutations that are kept.
     pub solver: Solver<ChainStore>,
 }
@@ -42,12 +46,13 @@ impl Stored {
     pub fn new(alloc: Global, parts: u16) -> Stored
         requires { 1 ≤ parts }
         ensures kept { IsKept result }
-        ensures seen { seen result false ≡ view_before_lines (record { parts = parts; accepted = [] }) }
+        ensures seen { seen result false ≡ view_before_lines (record { settings = unmarked parts SystemWord.Pudlak; accepted = [] }) }
     {
         Stored {
             alloc,
             names: Names::new(alloc),
             sides: Sides::new(alloc, parts),
+            choices: Choices::new(alloc),
             solver: Solver::new(alloc, ChainStore::new(alloc)),
         }
     }
@@ -73,8 +78,8 @@ impl Stored {
     /// The command of a line, or the first reason to refuse it.
     fn read(&self, line: &Line) -> Result<Command, LineFault>
         ensures reading { IsParsedAs result (reading (given_state self.now) line.now) }
-        ensures admitted { IfOk result (λ command. admitted self.now.sides.parts command ≡ Ok tt) }
-        ensures unassuming { IfOk result IsUnassuming }
+        ensures admitted { IfOk result (λ command. IsAdmitted self.now command) }
+        ensures as_read { IfOk result IsAsRead }
     {
         let command = parse(self.alloc, line)?;
         match admit(
@@ -90,8 +95,8 @@ impl Stored {
     /// Carries out a command that was admitted, and appends the reply to it.
     fn obey(&mut self, command: Command, out: &mut Vec<u8>) -> Result<(), AllocError>
         requires kept { IsKept self.old }
-        requires admitted { admitted self.old.sides.parts command ≡ Ok tt }
-        requires unassuming { IsUnassuming command }
+        requires admitted { IsAdmitted self.old command }
+        requires as_read { IsAsRead command }
         ensures kept { OnOk result (IsKept self.new) }
         ensures reply { OnOk result (AppendsText out.old.items out.new.items (RepliesTo (given_state self.old) command)) }
         ensures refutation { OnOk result (AppendsText out.old.items out.new.items (IsCommandReplyStored self.old self.new command)) }
@@ -101,20 +106,69 @@ impl Stored {
     {
         match command {
             Command::Nothing => Ok(()),
-            Command::Add { part, lits } => {
+            Command::Solve(_) => self.solve(out),
+            change => {
                 out.reserve(OK_SIZE)?;
-                self.accept(part, lits.as_slice())?;
+                self.change(change)?;
                 append_ok(out);
                 Ok(())
             }
-            Command::Solve(_) => self.solve(out),
         }
+    }
+
+    /// Carries out a command that changes the given state. After an error the given state is as before.
+    fn change(&mut self, command: Command) -> Result<(), AllocError>
+        requires kept { IsKept self.old }
+        requires admitted { IsAdmitted self.old command }
+        requires as_read { IsAsRead command }
+        ensures kept { OnOk result (IsKept self.new) }
+        ensures state { OnOk result (given_state self.new ≡ obeyed (given_state self.old) command) }
+        ensures unchanged { OnErr result (given_state self.new ≡ given_state self.old) }
+    {
+        match command {
+            Command::Nothing | Command::Solve(_) => Ok(()),
+            Command::Parts(count) => {
+                self.divide(count);
+                Ok(())
+            }
+            Command::Add { part, lits } => self.accept(part, lits.as_slice()),
+            Command::System(system) => {
+                self.choices.system = system;
+                Ok(())
+            }
+            Command::Mark { name, mark } => {
+                self.choices.marks.push((name as u32, mark_of(mark)))?;
+                Ok(())
+            }
+            Command::Cuts(CutWord::All) => {
+                self.choices.cuts = None;
+                Ok(())
+            }
+            Command::Cuts(CutWord::Chosen(numbers)) => {
+                // of 16 bits, and no cut is above it
+                let _ = self.sides.parts();
+                self.choices.cuts = Some(chosen_cuts(self.alloc, numbers.as_slice())?);
+                Ok(())
+            }
+        }
+    }
+
+    /// Sets the number of parts, while no clause is accepted, and chooses all cuts.
+    fn divide(&mut self, count: u64)
+        requires kept { IsKept self.old }
+        requires count { IsTrue (is_within part_limit count) }
+        requires none { self.old.solver.accepted ≡ [] }
+        ensures kept { IsKept self.new }
+        ensures state { given_state self.new ≡ obeyed (given_state self.old) (Command.Parts count) }
+    {
+        self.sides = Sides::new(self.alloc, count as u16);
+        self.choices.cuts = None;
     }
 
     /// Accepts a clause as it was written. After an error it is not accepted.
     fn accept(&mut self, part: u64, literals: &[i64]) -> Result<(), AllocError>
         requires kept { IsKept self.old }
-        requires part { IsTrue (is_within self.old.sides.parts part) }
+        requires part { part ≤ self.old.sides.parts }
         requires variables { IsTrue (list_all (is_within variable_limit) (map unsigned_abs literals.now)) }
         ensures kept { OnOk result (IsKept self.new) }
         ensures state { OnOk result (given_state self.new ≡ obeyed (given_state self.old) (Command.Add part literals.now)) }
@@ -141,15 +195,16 @@ impl Stored {
     {
         self.solver.reach(self.names.len())?;
         let answer = self.solver.solve(&[], None)?;
-        append_verdict(
-            self.alloc,
-            &self.names,
-            self.solver.accepted(),
-            &self.sides,
-            self.solver.tracer(),
-            &answer,
-            out,
-        )?;
+        let material = Material {
+            alloc: self.alloc,
+            names: &self.names,
+            clauses: self.solver.accepted(),
+            choices: &self.choices,
+            failed: &[],
+            sides: &self.sides,
+            store: self.solver.tracer(),
+        };
+        append_verdict(&material, &answer, out)?;
         Ok(())
     }
 }

@@ -1,10 +1,9 @@
 //! The top call: the words of the program, and then a run.
 
 ghost use Rattle.std.specs.Prelude.{◌≡◌, ◌<◌, ◌↔◌, length};
-ghost use Rattle.craig_io.specs.Faults.{Rose};
 ghost use Rattle.craig_top.specs.StartingSettings.{starting_settings};
 ghost use Rattle.craig_top.specs.Faults.{CountsFaults};
-ghost use Rattle.craig_top.specs.Ending.{Promise, EndsDone};
+ghost use Rattle.craig_top.specs.Ending.{Promise, EndsDoneIfQuiet};
 
 use crate::run::run_script;
 use crate::settings::Settings;
@@ -33,7 +32,7 @@ pub fn craig_top<R: Source, W: Sink>(
     ensures untouched { result ≡ Status.Usage → (source.new ≡ source.old) × (sink.new ≡ sink.old) }
     ensures read_fault { CountsFaults (result ≡ Status.ReadFault) (R.faults source.old) (R.faults source.new) }
     ensures write_fault { CountsFaults (result ≡ Status.WriteFault) (W.faults sink.old) (W.faults sink.new) }
-    ensures complete { length words.now ≡ 0 → EndsDone 4294967296 result (R.remaining source.old) (Rose (R.faults source.old) (R.faults source.new)) (Rose (W.faults sink.old) (W.faults sink.new)) }
+    ensures complete { length words.now ≡ 0 → EndsDoneIfQuiet 4294967296 result (R.remaining source.old) R.faults source.old source.new W.faults sink.old sink.new }
 {
     if !words.is_empty() {
         return Status::Usage;

@@ -2,51 +2,46 @@
 
 ghost use Rattle.std.specs.Prelude.{◌≡◌, ℕ, [], ◌++◌, List, None, true, length, map, OnOk};
 ghost use Rattle.std.specs.List.Sorted.{IsPermutation, IsNonDecreasing};
-ghost use Rattle.craig_base.specs.Names.{AreNames};
 ghost use Rattle.craig_solver.specs.Answer.{IsAnswer};
-ghost use Rattle.craig_solver.specs.Told.{IsToldOf, TellsAnswer};
+ghost use Rattle.craig_solver.specs.Told.{TellsAnswer};
 ghost use Rattle.craig_top.specs.Appended.{AppendsOnly, AppendsText};
-ghost use Rattle.craig_top.specs.Sides.{AreSidesOf, parted};
-ghost use Rattle.craig_top.specs.Stored.{HaveNames};
+ghost use Rattle.craig_top.specs.Material.{IsMaterial, view_of};
 ghost use Rattle.craig_top.specs.StoredReplies.{IsAnswerReply, AppendsModel};
 ghost use Rattle.craig_top.specs.Values.{AreOver, all_hold};
 
+use crate::material::Material;
 use crate::model::{model_literals, named_variables};
 use crate::refutation::append_refutation;
 use crate::reply::append_model;
 use craig_base::{Lit, Lits, Names, Part, Values};
-use craig_label::Sides;
-use craig_proof::ChainStore;
 use craig_solver::Answer;
 use std::alloc::{AllocError, Global};
 
-/// Appends the verdict that an answer is on the clauses, which are over the dense variables of the names. The answer
-/// was given without assumptions and without a limit, and the store was told its refutation.
+/// Appends the verdict that an answer is on the clauses of the material. The answer was given without assumptions and
+/// without a limit, and the store was told its refutation.
 pub fn append_verdict(
-    alloc: Global,
-    names: &Names,
-    clauses: &[(Part, Lits)],
-    sides: &Sides,
-    store: &ChainStore,
+    material: &Material,
     answer: &Answer,
     out: &mut Vec<u8>,
 ) -> Result<(), AllocError>
-    requires names { AreNames names.now }
-    requires stored { HaveNames names.now clauses.now }
-    requires sides { AreSidesOf (parted clauses.now) sides.now }
-    requires told { IsToldOf clauses.now store.now.told }
-    requires answer { IsAnswer (map (λ c. c.1) clauses.now) (length names.now) [] None answer.now }
-    requires refuted { TellsAnswer clauses.now [] answer.now store.now.told }
-    ensures reply { OnOk result (AppendsText out.old.items out.new.items (IsAnswerReply names.now clauses.now sides.now store.now answer.now)) }
+    requires material { IsMaterial (view_of material.now) }
+    requires unassuming { material.now.failed.now ≡ [] }
+    requires answer { IsAnswer (map (λ c. c.1) material.now.clauses.now) (length material.now.names.now) [] None answer.now }
+    requires refuted { TellsAnswer material.now.clauses.now [] answer.now material.now.store.now.told }
+    ensures reply { OnOk result (AppendsText out.old.items out.new.items (IsAnswerReply (view_of material.now) answer.now)) }
     ensures appends { AppendsOnly out.old.items out.new.items }
 {
     craig_base::laws::values_are_an_assignment();
     craig_proof::laws::steps_are_found();
     match answer {
-        Answer::Model(values) => append_values(alloc, names, clauses, values, out),
-        Answer::Failed { root, .. } => {
-            append_refutation(alloc, names, clauses, sides, store, *root, out)
-        }
+        Answer::Model(values) => append_values(
+            material.alloc,
+            material.names,
+            material.clauses,
+            values,
+            out,
+        ),
+        Answer::Failed { root, .. } => append_refutation(material, *root, out),
         // without a limit none is met
         Answer::Limit(_) => unreachable!(),
     }

@@ -24,16 +24,3 @@ pub fn strict_circuits()
     ensures gates { (c : Circuit) → IsStrict c → GatesStandOnce c }
     ensures used { (c : Circuit) → IsStrict c → AllAreUsed c }
 {}
-
-#[cfg(test)]
-mod tests {
-    use super::*;
-    use std::test::Fail;
-
-    #[test]
-    fn the_laws_are_called(_rt: HostRuntime) -> Result<(), Fail> {
-        literals_of_a_circuit();
-        strict_circuits();
-        Ok(())
-    }
-}

@@ -12,15 +12,3 @@ pub fn literals_of_a_model()
     ensures model { EachModelReply (λ clauses literals. (s : Assignment) → MakesTrue s literals → IsModel s clauses) }
     ensures together { EachModelReply (λ clauses literals. (s : Assignment) × MakesTrue s literals) }
 {}
-
-#[cfg(test)]
-mod tests {
-    use super::*;
-    use std::test::Fail;
-
-    #[test]
-    fn the_laws_are_called(_rt: HostRuntime) -> Result<(), Fail> {
-        literals_of_a_model();
-        Ok(())
-    }
-}

@@ -43,8 +43,8 @@ pub fn steps_of_a_refutation()
 /// Literals that are drawn from one refutation have, at each cut between the outer ones and for each system, the value
 /// that the labelled rules give its root: whatever values meet the rules at each of its steps.
 pub fn values_from_one_refutation()
-    ensures one { EachDrawn (λ clauses parts c steps root systems. IsRefutationOf clauses steps root) }
-    ensures values { EachDrawn (λ clauses parts c steps root systems. AllAreByTheRules clauses parts steps root c systems) }
+    ensures one { EachDrawn (λ clauses parts cuts c steps root systems. IsRefutationOf clauses steps root) }
+    ensures values { EachDrawn (λ clauses parts cuts c steps root systems. AllAreByTheRules clauses parts cuts steps root c systems) }
 {
     craig_itp::laws::partial_values_by_steps();
 }
@@ -59,19 +59,3 @@ pub fn steps_of_the_last_root()
     ensures empty { EachRefutationBy (λ kept last. IsEmptyOne kept last) }
     ensures solve { EachSolveByLastRoot (λ view state pairs text. GivesModel state pairs text ⊎ IsRefutingBy view state pairs text) }
 {}
-
-#[cfg(test)]
-mod tests {
-    use super::*;
-    use std::test::Fail;
-
-    #[test]
-    fn the_laws_are_called(_rt: HostRuntime) -> Result<(), Fail> {
-        resolvents();
-        clauses_along_a_chain();
-        steps_of_a_refutation();
-        values_from_one_refutation();
-        steps_of_the_last_root();
-        Ok(())
-    }
-}

@@ -1,64 +1,107 @@
 //! What replies say, what their bytes are, and what a line does to the given state.
 
-ghost use Rattle.std.specs.Prelude.{◌≡◌, ℕ, [], ◌++◌, List, Ok, Err, ℤ, true, codes, decimal, pos};
-ghost use Rattle.craig_spec.specs.Circuit.{Circuit};
+ghost use Rattle.std.specs.Prelude.{◌≡◌, ℕ, [], ◌++◌, List, Ok, Err, ℤ, true, codes, decimal, map, pos};
 ghost use Rattle.craig_spec.specs.DrawnFromOneRefutation.{IsRefutationOf};
-ghost use Rattle.craig_spec.specs.PartialInterpolant.{AB};
+ghost use Rattle.craig_spec.specs.PartialInterpolant.{Label, A, AB, B};
+ghost use Rattle.craig_spec.specs.Strength.{ImplyInTurn};
 ghost use Rattle.craig_script.specs.declared.line.Line.{Line};
-ghost use Rattle.craig_script.specs.declared.command.Command.TheVariants.{Nothing, Add, Solve};
+ghost use Rattle.craig_script.specs.declared.command.Command.TheVariants.{Nothing, Parts, Add, System, Mark, Cuts, Solve};
+ghost use Rattle.craig_script.specs.declared.cut_word.CutWord.{CutWord};
+ghost use Rattle.craig_script.specs.declared.setting_words.MarkWord.{MarkWord};
 ghost use Rattle.craig_script.specs.declared.refusal.Refusal.{Refusal};
+ghost use Rattle.craig_script.specs.declared.setting_words.SystemWord.{SystemWord};
 ghost use Rattle.craig_top.specs.declared.settings.Settings.{Settings};
 ghost use Rattle.craig_top.specs.DrawnSteps.{AreByTheRules};
 ghost use Rattle.craig_top.specs.GivenState.{State, next, reading, script_literal, start};
-ghost use Rattle.craig_top.specs.RefutationReply.{IsCircuitText, output_literals};
-ghost use Rattle.craig_top.specs.ReplyContents.{EachAddition, EachDrawnReply, EachRefutingReply, EachReply, EachReplyCircuit, HaveTheNames, HasAccepted, MayAnswer, IsPrintedFirst, IsTextOf, IsStrictText, PrintsRefutation, RefusalsAreNumbered};
+ghost use Rattle.craig_top.specs.RefutationReply.{AreNoHigher};
+ghost use Rattle.craig_top.specs.ReplyContents.{AreLiteralsOf, AreNamedBy, AreThree, AreThreeByStrength, EachAddition, EachDrawnSystem, EachMark, EachReading, EachRefutingReply, EachReply, EachReplyOfAll, EachReplySystem, EachText, EachTwoSystems, HasAccepted, HasCuts, HaveOutputs, IsAlone, IsDivided, IsLastMark, IsPrintedFirst, IsStrictText, IsTextOf, MayAnswer, PrintsRefutation, RefusalsAreNumbered, StartsWith, with_mark, with_system};
 ghost use Rattle.craig_top.specs.ReplyTexts.{literals_text, refusal_text};
-ghost use Rattle.craig_top.specs.TrueParts.{AreFirstOnes, AreImplied, AreNamedByCuts, AreOfAllCuts, AreRefuted, AreTrueWith, FirstPlacesRise, HaveWith, ImplyTheNext, ReachSharedVariables};
+ghost use Rattle.craig_top.specs.TrueParts.{AreFirstOnes, AreImplied, AreOfCuts, AreRefuted, AreTrueWith, FirstPlacesRise, HaveWith, ImplyLaterOnes, ReachSharedVariables};
+ghost use Rattle.craig_top.specs.WrittenSystems.{label_of_mark, systems_of, written_systems};
 
-/// The text of a circuit reads back as it, and is laid out strictly; its outputs have the names.
+/// The text of a circuit reads back as it, and is laid out strictly; it has the outputs.
 pub fn texts_of_circuits()
-    ensures read { (names : List (List ℕ)) (bytes : List ℕ) (c : Circuit) → IsCircuitText names bytes c → IsTextOf bytes c }
-    ensures strict { (names : List (List ℕ)) (bytes : List ℕ) (c : Circuit) → IsCircuitText names bytes c → IsStrictText bytes }
-    ensures named { (names : List (List ℕ)) (bytes : List ℕ) (c : Circuit) → IsCircuitText names bytes c → HaveTheNames names c.outputs }
+    ensures read { EachText (λ outputs bytes c. IsTextOf bytes c) }
+    ensures strict { EachText (λ outputs bytes c. IsStrictText bytes) }
+    ensures outputs { EachText (λ outputs bytes c. HaveOutputs outputs c.outputs) }
+{}
+
+/// The systems that a word names: one alone, which labels each variable of both sides B, AB or A or by its mark, or
+/// McMillan's, Pudlák's and the inverse one.
+pub fn systems_of_words()
+    ensures mcmillan { (marks : ℕ → Label) → IsAlone (systems_of SystemWord.McMillan marks) (λ x. B) }
+    ensures pudlak { (marks : ℕ → Label) → IsAlone (systems_of SystemWord.Pudlak marks) (λ x. AB) }
+    ensures inverse { (marks : ℕ → Label) → IsAlone (systems_of SystemWord.Inverse marks) (λ x. A) }
+    ensures dual { (marks : ℕ → Label) → IsAlone (systems_of SystemWord.Dual marks) (λ x. AB) }
+    ensures marks { (marks : ℕ → Label) → IsAlone (systems_of SystemWord.Marks marks) marks }
+    ensures all { (marks : ℕ → Label) → AreThree (systems_of SystemWord.All marks) }
+{}
+
+/// The label of a variable by its marks: AB without one, and otherwise the last one.
+pub fn labels_of_marks()
+    ensures none { (x : ℕ) → label_of_mark [] x ≡ AB }
+    ensures last { (marks : List (ℕ × Label)) (x : ℕ) (label : Label) → IsLastMark marks x label }
 {}
 
 /// A refuting reply prints some of the assumptions as failed, and then a number of bytes and so many. They read back as
-/// a circuit with an output for each cut, named by its number. At each cut the accepted clauses and the failed
-/// assumptions of the parts up to it imply the output, those of the later parts refute it, and the inputs in its cone
-/// occur on both sides; with those of the next part it implies the next output. Output 0 is the literal 1, and the last
-/// the literal 0. Between them each has the value of the labelled rules for one refutation of these clauses, where each
-/// variable of both sides is labelled AB.
+/// a circuit with an output for each cut and each system that is set, named by the cut and the family.
 pub fn contents_of_a_refutation()
-    ensures text { EachRefutingReply (λ state assumptions text reply. PrintsRefutation text reply.failed reply.bytes) }
+    ensures text { EachRefutingReply (λ state assumptions text reply. PrintsRefutation text reply.failed reply.block.bytes) }
     ensures failed { EachRefutingReply (λ state assumed text reply. AreFirstOnes assumed reply.failed × FirstPlacesRise assumed reply.failed) }
-    ensures read { EachRefutingReply (λ state assumptions text reply. IsTextOf reply.bytes reply.circuit) }
-    ensures strict { EachRefutingReply (λ state assumptions text reply. IsStrictText reply.bytes) }
-    ensures named { EachRefutingReply (λ state assumptions text reply. AreNamedByCuts state.parts reply.circuit.outputs) }
-    ensures cuts { EachRefutingReply (λ state assumptions text reply. AreOfAllCuts state.parts (output_literals reply.circuit)) }
-    ensures implied { EachReplyCircuit (λ accepted failed c literals. AreImplied (AreTrueWith accepted failed) c literals) }
-    ensures refuted { EachReplyCircuit (λ accepted failed c literals. AreRefuted (AreTrueWith accepted failed) c literals) }
-    ensures shared { EachReplyCircuit (λ accepted failed c literals. ReachSharedVariables (HaveWith accepted failed) c literals) }
-    ensures onward { EachReplyCircuit (λ accepted failed c literals. ImplyTheNext (AreTrueWith accepted failed) c literals) }
-    ensures refutation { EachDrawnReply (λ clauses parts steps root c. IsRefutationOf clauses steps root) }
-    ensures values { EachDrawnReply (λ clauses parts steps root c. AreByTheRules clauses parts steps root c (λ x. AB) (output_literals c)) }
+    ensures read { EachRefutingReply (λ state assumptions text reply. IsTextOf reply.block.bytes reply.gives.circuit) }
+    ensures strict { EachRefutingReply (λ state assumptions text reply. IsStrictText reply.block.bytes) }
+    ensures outputs { EachRefutingReply (λ state assumptions text reply. HaveOutputs reply.block.outputs reply.gives.circuit.outputs) }
+    ensures named { EachRefutingReply (λ state assumed text reply. AreNamedBy (written_systems state.settings) state.settings.cuts reply.gives.circuit.outputs) }
+    ensures literals { EachRefutingReply (λ state assumptions text reply. AreLiteralsOf reply.gives.systems reply.gives.circuit.outputs) }
+    ensures systems { EachRefutingReply (λ state assumptions text reply. map (λ y. y.system) reply.gives.systems ≡ written_systems state.settings) }
+{}
+
+/// By each system of a refuting reply there is a literal for each cut, the literal 1 at cut 0 and the literal 0 at the
+/// last. At each cut the accepted clauses and the failed assumptions of the parts up to it imply the literal, those of
+/// the later parts refute it, and the inputs in its cone occur on both sides; with those of the next part it implies
+/// the next literal. Of two systems the one that labels no variable higher has the stronger literals. Between the outer
+/// cuts each has the value of the labelled rules for one refutation of these clauses, by the labels of its system.
+pub fn interpolants_of_a_refutation()
+    ensures cuts { EachReplySystem (λ given failed c marks literals. AreOfCuts given.settings.parts given.settings.cuts literals) }
+    ensures implied { EachReplySystem (λ given failed c marks literals. AreImplied (AreTrueWith given.accepted failed) given.settings.cuts c literals) }
+    ensures refuted { EachReplySystem (λ given failed c marks literals. AreRefuted (AreTrueWith given.accepted failed) given.settings.cuts c literals) }
+    ensures shared { EachReplySystem (λ given failed c marks literals. ReachSharedVariables (HaveWith given.accepted failed) given.settings.cuts c literals) }
+    ensures onward { EachReplySystem (λ given failed c marks literals. ImplyLaterOnes (AreTrueWith given.accepted failed) given.settings.cuts c literals) }
+    ensures strength { EachTwoSystems (λ c marks literals other others. AreNoHigher marks other → ImplyInTurn c literals others) }
+    ensures refutation { EachDrawnSystem (λ clauses given steps root c marks literals. IsRefutationOf clauses steps root) }
+    ensures values { EachDrawnSystem (λ clauses given steps root c marks literals. AreByTheRules clauses given.parts given.cuts steps root c marks literals) }
 {
     craig_itp::laws::partial_values_by_steps();
 }
+
+/// Where all systems are set, a refuting reply has the sequences of McMillan's, Pudlák's and the inverse system in this
+/// order, and at each cut the literal of each implies that of the next.
+pub fn three_systems_by_strength()
+    ensures { EachReplyOfAll (λ clauses settings c systems. AreThreeByStrength clauses settings c systems) }
+{}
 
 /// The reply to a line is no text, `ok`, the number of a refusal, a model of the accepted clauses and the assumed
 /// literals, or a refutation of them, as the line is read in the state.
 pub fn replies_to_lines()
     ensures nothing { EachReply (λ state line text. reading state line ≡ Ok Nothing → text ≡ []) }
+    ensures parts { EachReply (λ state line text. (n : ℕ) → reading state line ≡ Ok (Parts n) → text ≡ codes "ok\n") }
     ensures add { EachReply (λ state line text. (part : ℕ) (lits : List ℤ) → reading state line ≡ Ok (Add part lits) → text ≡ codes "ok\n") }
+    ensures system { EachReply (λ state line text. (s : SystemWord) → reading state line ≡ Ok (System s) → text ≡ codes "ok\n") }
+    ensures mark { EachReply (λ state line text. (name : ℕ) (m : MarkWord) → reading state line ≡ Ok (Mark name m) → text ≡ codes "ok\n") }
+    ensures cuts { EachReply (λ state line text. (cuts : CutWord) → reading state line ≡ Ok (Cuts cuts) → text ≡ codes "ok\n") }
     ensures solve { EachReply (λ state line text. (pairs : List (ℕ × ℤ)) → reading state line ≡ Ok (Solve pairs) → MayAnswer state pairs text) }
     ensures refused { EachReply (λ state line text. (refusal : Refusal) → reading state line ≡ Err refusal → text ≡ refusal_text refusal) }
 {}
 
-/// Two parts and no clause come before the first line. An added clause is accepted last, and any other line changes
-/// nothing.
+/// Two parts, no mark, all cuts and no clause come before the first line. An added clause is accepted last, a
+/// setting is set, where the number of parts sets the cuts too, and any other line changes nothing.
 pub fn states_after_lines()
-    ensures start { (settings : Settings) → ((start settings).parts ≡ 2) × ((start settings).accepted ≡ []) }
+    ensures start { (settings : Settings) → StartsWith settings.system (start settings) }
     ensures add { EachAddition (λ state part lits after. HasAccepted state part lits after) }
+    ensures parts { EachReading (λ n. Ok (Parts n)) (λ state n after. IsDivided state n after) }
+    ensures system { EachReading (λ s. Ok (System s)) (λ state s after. after ≡ with_system state s) }
+    ensures mark { EachMark (λ state name label after. after ≡ with_mark state name label) }
+    ensures cuts { EachReading (λ w. Ok (Cuts w)) (λ state w after. HasCuts state w after) }
     ensures nothing { (state : State) (line : Line) → reading state line ≡ Ok Nothing → next state line ≡ state }
     ensures solve { (state : State) (line : Line) (pairs : List (ℕ × ℤ)) → reading state line ≡ Ok (Solve pairs) → next state line ≡ state }
     ensures refused { (state : State) (line : Line) (refusal : Refusal) → reading state line ≡ Err refusal → next state line ≡ state }
@@ -72,19 +115,3 @@ pub fn printed_literals()
     ensures negative { (n : ℕ) → IsPrintedFirst (record { var = n; negated = true }) (codes "-" ++ decimal n) }
     ensures refusals { RefusalsAreNumbered }
 {}
-
-#[cfg(test)]
-mod tests {
-    use super::*;
-    use std::test::Fail;
-
-    #[test]
-    fn the_laws_are_called(_rt: HostRuntime) -> Result<(), Fail> {
-        texts_of_circuits();
-        contents_of_a_refutation();
-        replies_to_lines();
-        states_after_lines();
-        printed_literals();
-        Ok(())
-    }
-}

@@ -45,18 +45,3 @@ pub fn replies_put()
 pub fn runs_end_done()
     ensures { FaultlessRunsEnd (λ status. IsDoneOrNoMemory status) }
 {}
-
-#[cfg(test)]
-mod tests {
-    use super::*;
-    use std::test::Fail;
-
-    #[test]
-    fn the_laws_are_called(_rt: HostRuntime) -> Result<(), Fail> {
-        replies_of_a_transcript();
-        bytes_taken();
-        replies_put();
-        runs_end_done();
-        Ok(())
-    }
-}

@@ -1,5 +1,17 @@
-use Rattle.craig_top.proofs.ReplyContentsLemmas.{next_after_add, next_after_nothing, next_after_refused, next_after_solve}
+use Rattle.craig_top.proofs.ReplyContentsLemmas.{next_after_add, next_after_cuts, next_after_mark, next_after_parts, next_after_system, next_after_nothing, next_after_refused, next_after_solve}
 use Rattle.craig_top.proofs.laws.replies.states_after_lines.Goals as goal
+
+pub returns-clause-parts : goal.returns-clause-parts
+returns-clause-parts c = next_after_parts
+
+pub returns-clause-system : goal.returns-clause-system
+returns-clause-system c = next_after_system
+
+pub returns-clause-mark : goal.returns-clause-mark
+returns-clause-mark c = next_after_mark
+
+pub returns-clause-cuts : goal.returns-clause-cuts
+returns-clause-cuts c = next_after_cuts
 
 pub returns-clause-add : goal.returns-clause-add
 returns-clause-add c = next_after_add

@@ -1,0 +1,371 @@
+//! Rows of `craig_top`: scripts with their replies, and runs whose reads and writes fail.
+
+use craig_io::{Failed, MemSink, MemSource, Source};
+use craig_top::{Settings, Status, craig_top, run_script};
+use std::alloc::{AllocError, Global};
+use std::test::Fail;
+
+/// A script, and what has to be put for it.
+#[derive(Clone, Copy)]
+struct Row {
+    /// What the row shows.
+    shows: &'static str,
+    /// The bytes of the script.
+    script: &'static [u8],
+    /// All replies, one behind the other.
+    replies: &'static [u8],
+}
+
+/// The first row, which other tests run too.
+const UNSATISFIABLE: Row = Row {
+    shows: "two units that contradict each other",
+    script: b"add 1 1 0\nadd 2 -1 0\nsolve 0\n",
+    replies: b"ok\nok\ns UNSATISFIABLE\nf 0\na 42\naag 1 1 0 3 0\n2\n1\n2\n0\ni0 1\no0 0\no1 1\no2 2\n",
+};
+
+/// Scripts that are read to their end.
+const ROWS: [Row; 24] = [
+    UNSATISFIABLE,
+    Row {
+        shows: "a cut variable alone, where an expansion over local ones would keep the input 2",
+        script: b"add 1 1 0\nadd 1 2 0\nadd 2 -1 0\nadd 2 2 3 0\nsolve 0\n",
+        replies: b"ok\nok\nok\nok\ns UNSATISFIABLE\nf 0\na 42\naag 1 1 0 3 0\n2\n1\n2\n0\ni0 1\no0 0\no1 1\no2 2\n",
+    },
+    Row {
+        shows: "an empty script",
+        script: b"",
+        replies: b"",
+    },
+    Row {
+        shows: "no clause, and no newline at the end",
+        script: b"solve 0",
+        replies: b"s SATISFIABLE\nv 0\n",
+    },
+    Row {
+        shows: "the empty clause",
+        script: b"add 2 0\nsolve 0\n",
+        replies: b"ok\ns UNSATISFIABLE\nf 0\na 35\naag 0 0 0 3 0\n1\n1\n0\no0 0\no1 1\no2 2\n",
+    },
+    Row {
+        shows: "the empty clause on the other side of the cut",
+        script: b"add 1 0\nsolve 0\n",
+        replies: b"ok\ns UNSATISFIABLE\nf 0\na 35\naag 0 0 0 3 0\n1\n0\n0\no0 0\no1 1\no2 2\n",
+    },
+    Row {
+        shows: "a tautology names its variables, and the first phase is false",
+        script: b"add 1 1 -1 0\nadd 1 2147483647 0\nsolve 0\n",
+        replies: b"ok\nok\ns SATISFIABLE\nv -1 2147483647 0\n",
+    },
+    Row {
+        shows: "by rising variable, however they were named",
+        script: b"add 1 7 0\nadd 2 -3 5 0\nadd 1 3 0\nsolve 0\n",
+        replies: b"ok\nok\nok\ns SATISFIABLE\nv 3 5 7 0\n",
+    },
+    Row {
+        shows: "several solves, each over what is accepted by then",
+        script: b"add 1 1 2 0\nsolve 0\nadd 2 -2 0\nsolve 0\nadd 1 -1 0\nsolve 0\nsolve 0\n",
+        replies: b"ok\ns SATISFIABLE\nv -1 2 0\nok\ns SATISFIABLE\nv 1 -2 0\nok\ns UNSATISFIABLE\nf 0\na 42\naag 1 1 0 3 0\n2\n1\n2\n0\ni0 2\no0 0\no1 1\no2 2\ns UNSATISFIABLE\nf 0\na 42\naag 1 1 0 3 0\n2\n1\n2\n0\ni0 2\no0 0\no1 1\no2 2\n",
+    },
+    Row {
+        shows: "two refuted branches before the only model",
+        script: b"add 1 1 2 3 0\nadd 1 1 2 -3 0\nadd 2 1 -2 3 0\nadd 2 1 -2 -3 0\nadd 1 -1 -2 0\nadd 2 -1 -3 0\nsolve 0\n",
+        replies: b"ok\nok\nok\nok\nok\nok\ns SATISFIABLE\nv 1 -2 -3 0\n",
+    },
+    Row {
+        shows: "comments, blank lines, separators",
+        script: b"# a comment\n\n  add   1 5 0\r\n\t\n #add 1 1 0\n",
+        replies: b"ok\n",
+    },
+    Row {
+        shows: "parts are tested before variables, and refused lines change nothing",
+        script: b"add 3 1 0\nadd 1 2147483648 0\nadd 3 2147483648 0\nadd 1 1\nadd 1 1 0\nsolve 0\n",
+        replies: b"e 3\ne 4\ne 3\ne 1\nok\ns SATISFIABLE\nv 1 0\n",
+    },
+    Row {
+        shows: "what is outside of the grammar",
+        script: b"add\nadd 1\nAdd 1 0\nadd 1 -0 0\nadd 1 +1 0\nadd 1 01 0\nadd 1 1 0 0\nsolve\nsolve 0 0\nsolve 1 2 0\nsimplify\n\x00\n\xff\xfe\n",
+        replies: b"e 1\ne 1\ne 1\ne 1\ne 1\ne 1\ne 1\ne 1\ne 1\ne 1\ne 1\ne 1\ne 1\n",
+    },
+    Row {
+        shows: "eighteen digits are a number and nineteen are none",
+        script: b"add 1 999999999999999999 0\nadd 1 1000000000000000000 0\nadd 999999999999999999 1 0\n",
+        replies: b"e 4\ne 1\ne 3\n",
+    },
+    Row {
+        shows: "one part alone",
+        script: b"parts 1\nadd 1 3 0\nadd 1 -3 0\nsolve 0\n",
+        replies: b"ok\nok\nok\ns UNSATISFIABLE\nf 0\na 28\naag 0 0 0 2 0\n1\n0\no0 0\no1 1\n",
+    },
+    Row {
+        shows: "inputs by rising variable, however they are named and used",
+        script: b"parts 3\nadd 1 2 0\nadd 2 1 -2 0\nadd 3 -1 0\nsolve 0\n",
+        replies: b"ok\nok\nok\nok\ns UNSATISFIABLE\nf 0\na 56\naag 2 2 0 4 0\n2\n4\n1\n4\n2\n0\ni0 1\ni1 2\no0 0\no1 1\no2 2\no3 3\n",
+    },
+    Row {
+        shows: "refusals of parts, marks and cuts change nothing",
+        script: b"parts 0\nparts 4097\nmark 0 a\ncuts 3\ncuts 1 1\ncuts 2 0\ncuts\nadd 1 1 0\nparts 4097\nparts 2\nsolve 0\n",
+        replies: b"e 3\ne 3\ne 4\ne 7\ne 7\ne 7\ne 1\nok\ne 5\ne 5\ns SATISFIABLE\nv 1 0\n",
+    },
+    Row {
+        shows: "three systems beside one another",
+        script: b"system all\nadd 1 1 0\nadd 2 -1 0\nsolve 0\n",
+        replies: b"ok\nok\nok\ns UNSATISFIABLE\nf 0\na 93\naag 1 1 0 9 0\n2\n1\n2\n0\n1\n2\n0\n1\n2\n0\ni0 1\no0 m0\no1 m1\no2 m2\no3 p0\no4 p1\no5 p2\no6 i0\no7 i1\no8 i2\n",
+    },
+    Row {
+        shows: "the inverse system",
+        script: b"system inverse\nadd 1 1 2 0\nadd 1 -1 0\nadd 2 -2 0\nsolve 0\n",
+        replies: b"ok\nok\nok\nok\ns UNSATISFIABLE\nf 0\na 42\naag 1 1 0 3 0\n2\n1\n2\n0\ni0 2\no0 0\no1 1\no2 2\n",
+    },
+    Row {
+        shows: "a common clause and side B",
+        script: b"add 0 1 0\nadd 2 -1 0\nsolve 0\n",
+        replies: b"ok\nok\ns UNSATISFIABLE\nf 0\na 35\naag 0 0 0 3 0\n1\n1\n0\no0 0\no1 1\no2 2\n",
+    },
+    Row {
+        shows: "side A and a common clause",
+        script: b"add 1 1 0\nadd 0 -1 0\nsolve 0\n",
+        replies: b"ok\nok\ns UNSATISFIABLE\nf 0\na 42\naag 1 1 0 3 0\n2\n1\n2\n0\ni0 1\no0 0\no1 1\no2 2\n",
+    },
+    Row {
+        shows: "the empty clause on both sides",
+        script: b"add 0 0\nsolve 0\n",
+        replies: b"ok\ns UNSATISFIABLE\nf 0\na 35\naag 0 0 0 3 0\n1\n1\n0\no0 0\no1 1\no2 2\n",
+    },
+    Row {
+        shows: "a chosen cut",
+        script: b"cuts 1\nadd 1 1 0\nadd 2 -1 0\nsolve 0\n",
+        replies: b"ok\nok\nok\ns UNSATISFIABLE\nf 0\na 28\naag 1 1 0 1 0\n2\n2\ni0 1\no0 1\n",
+    },
+    Row {
+        shows: "another number of parts chooses all cuts",
+        script: b"parts 4096\ncuts 0 4096\nparts 1\nadd 1 0\nsolve 0\n",
+        replies: b"ok\nok\nok\nok\ns UNSATISFIABLE\nf 0\na 28\naag 0 0 0 2 0\n1\n0\no0 0\no1 1\n",
+    },
+];
+
+/// Three pigeons and two holes: each pigeon is in a hole by part 1, and part 2 puts no two into one.
+const PIGEONS: &[u8] =
+    b"add 1 1 2 0\nadd 1 3 4 0\nadd 1 5 6 0\nadd 2 -1 -3 0\nadd 2 -1 -5 0\nadd 2 -3 -5 0\nadd 2 -2 -4 0\nadd 2 -2 -6 0\nadd 2 -4 -6 0\nsolve 0\n";
+
+/// How a script comes, and where its run stops.
+#[derive(Clone, Copy)]
+struct Way {
+    /// How many bytes a read gives and a write takes at most.
+    pieces: (usize, usize),
+    /// The number of the read that fails, or 0.
+    read_fails: u64,
+    /// The number of the write that fails, or 0.
+    write_fails: u64,
+    /// How many bytes the script has to be shorter than.
+    bound: u64,
+}
+
+/// All at once, and nothing fails.
+const AT_ONCE: Way = Way {
+    pieces: (65536, 65536),
+    read_fails: 0,
+    write_fails: 0,
+    bound: 4294967296,
+};
+
+/// How a run ended, and what it put.
+#[derive(Drop)]
+struct Ending {
+    /// The status of the run.
+    status: Status,
+    /// What the sink holds.
+    put: Vec<u8>,
+    /// The most bytes that a read asked for.
+    asked: usize,
+    /// How many reads there were.
+    reads: u64,
+}
+
+/// A source that notes what it is asked for.
+#[derive(Drop)]
+struct Noting {
+    inner: MemSource,
+    asked: usize,
+    reads: u64,
+}
+
+impl Source for Noting {
+    ghost use Rattle.std.specs.Prelude.{Some};
+
+    ghost remaining = { λ s. Some s.inner.left };
+
+    ghost faults = { λ s. s.inner.calls.faults };
+
+    fn read(&mut self, into: &mut [u8]) -> Result<usize, Failed> {
+        self.asked = self.asked.max(into.len());
+        self.reads = self.reads.saturating_add(1);
+        self.inner.read(into)
+    }
+}
+
+/// Runs a script in a way.
+fn run(alloc: Global, script: &[u8], way: Way) -> Result<Ending, AllocError> {
+    let bytes = Vec::from_slice(alloc, script)?;
+    let mut source = Noting {
+        inner: MemSource::new(bytes, way.pieces.0.max(1), vec![in alloc; way.read_fails]?),
+        asked: 0,
+        reads: 0,
+    };
+    let fails = vec![in alloc; way.write_fails]?;
+    let mut sink = MemSink::new(alloc, 65536, way.pieces.1.max(1), fails)?;
+    let bound = way.bound.max(1);
+    let status = run_script(alloc, Settings::start(), bound, &mut source, &mut sink);
+    Ok(Ending {
+        status,
+        put: Vec::from_slice(alloc, sink.bytes())?,
+        asked: source.asked,
+        reads: source.reads,
+    })
+}
+
+/// A line of so many bytes, and behind it a solve.
+fn long_line(alloc: Global, first: u8, len: usize) -> Result<Vec<u8>, AllocError> {
+    let mut script = vec![in alloc; b'x'; len]?;
+    if let Some(byte) = script.first_mut() {
+        *byte = first;
+    }
+    script.extend_from_slice(b"\nsolve 0")?;
+    Ok(script)
+}
+
+#[test]
+fn each_line_has_its_reply_in_any_pieces(rt: HostRuntime) -> Result<(), Fail> {
+    for row in &ROWS {
+        for pieces in [(1, 65536), (7, 65536), (65536, 65536), (65536, 1)] {
+            let ending = run(rt.alloc(), row.script, Way { pieces, ..AT_ONCE })?;
+            assert_eq!(rt; ending.put.as_slice(), row.replies, "{}", row.shows);
+        }
+    }
+    Ok(())
+}
+
+#[test]
+fn pigeons_are_refuted_by_search(rt: HostRuntime) -> Result<(), Fail> {
+    let ending = run(rt.alloc(), PIGEONS, AT_ONCE)?;
+    let begins = ending.put.as_slice().starts_with(
+        b"ok\nok\nok\nok\nok\nok\nok\nok\nok\ns UNSATISFIABLE\nf 0\na ",
+    );
+    assert!(rt; begins);
+    Ok(())
+}
+
+#[test]
+fn a_line_is_overlong_from_1048577_bytes_on(rt: HostRuntime) -> Result<(), Fail> {
+    let rows: [(u8, usize, &[u8]); 4] = [
+        (b'x', 1048576, b"e 1\ns SATISFIABLE\nv 0\n"),
+        (b'x', 1048577, b"e 2\ns SATISFIABLE\nv 0\n"),
+        (b'#', 1048576, b"s SATISFIABLE\nv 0\n"),
+        (b'#', 1048577, b"e 2\ns SATISFIABLE\nv 0\n"),
+    ];
+    for (first, len, replies) in &rows {
+        let script = long_line(rt.alloc(), *first, *len)?;
+        let ending = run(rt.alloc(), &script, AT_ONCE)?;
+        assert_eq!(rt; ending.put.as_slice(), *replies, "{len} bytes from {first}");
+    }
+    Ok(())
+}
+
+// At a bound or a failure, and the reads that there were: each asks for at most 65536 bytes and for no more than are
+// left to the bound, and none comes before the replies to what was read are put.
+#[test]
+fn a_run_stops_where_it_has_to(rt: HostRuntime) -> Result<(), Fail> {
+    let rows: [(Way, Status, &[u8], usize, u64); 8] = [
+        (AT_ONCE, Status::Done, UNSATISFIABLE.replies, 65536, 2),
+        (
+            way_of(65536, 65536, 0, 0, 10),
+            Status::TooLong,
+            b"ok\n",
+            10,
+            1,
+        ),
+        (
+            way_of(65536, 65536, 0, 0, 29),
+            Status::TooLong,
+            UNSATISFIABLE.replies,
+            29,
+            1,
+        ),
+        (
+            way_of(65536, 65536, 0, 0, 30),
+            Status::Done,
+            UNSATISFIABLE.replies,
+            30,
+            2,
+        ),
+        (
+            way_of(16, 65536, 2, 0, 4294967296),
+            Status::ReadFault,
+            b"ok\n",
+            65536,
+            2,
+        ),
+        (
+            way_of(10, 65536, 0, 1, 4294967296),
+            Status::WriteFault,
+            b"",
+            65536,
+            1,
+        ),
+        (
+            way_of(65536, 65536, 0, 3, 4294967296),
+            Status::WriteFault,
+            b"ok\nok\n",
+            65536,
+            1,
+        ),
+        (
+            way_of(65536, 4, 0, 4, 4294967296),
+            Status::WriteFault,
+            b"ok\nok\ns UN",
+            65536,
+            1,
+        ),
+    ];
+    for (way, status, put, asked, reads) in &rows {
+        let ending = run(rt.alloc(), UNSATISFIABLE.script, *way)?;
+        let same = ending.status == *status && ending.asked == *asked && ending.reads == *reads;
+        assert!(rt; same, "{asked} {reads}");
+        assert_eq!(rt; ending.put.as_slice(), *put, "{asked} {reads}");
+    }
+    Ok(())
+}
+
+/// A way by its numbers.
+fn way_of(given: usize, taken: usize, read_fails: u64, write_fails: u64, bound: u64) -> Way {
+    Way {
+        pieces: (given, taken),
+        read_fails,
+        write_fails,
+        bound,
+    }
+}
+
+#[test]
+fn words_are_refused(rt: HostRuntime) -> Result<(), Fail> {
+    let alloc = rt.alloc();
+    let rows: [&[&str]; 5] = [
+        &["--wrong"],
+        &["--limit", "0"],
+        &["--gen", "61"],
+        &["--gen", "1", "--gen", "1"],
+        &["--"],
+    ];
+    for row in &rows {
+        let mut words = Vec::new(alloc);
+        for word in *row {
+            words.push(String::from_str(alloc, word)?)?;
+        }
+        let bytes = Vec::from_slice(alloc, UNSATISFIABLE.script)?;
+        let mut source = MemSource::new(bytes, 3, Vec::new(alloc));
+        let mut sink = MemSink::new(alloc, 65536, 65536, Vec::new(alloc))?;
+        let status = craig_top(alloc, &words, &mut source, &mut sink);
+        let refused = status.number() == 1 && sink.bytes().is_empty();
+        assert!(rt; refused);
+    }
+    Ok(())
+}

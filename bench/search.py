@@ -69,9 +69,9 @@ def counter(steps):
 
 
 FAMILIES = (
-    [("pigeons %d" % holes, pigeons(holes)) for holes in range(4, 9)]
-    + [("random %d" % variables, random_clauses(variables)) for variables in (50, 80, 120)]
-    + [("counter %d" % steps, counter(steps)) for steps in (2, 4, 6, 8)]
+    [("pigeons %d" % holes, pigeons(holes)) for holes in range(4, 10)]
+    + [("random %d" % variables, random_clauses(variables)) for variables in (50, 80, 120, 150, 200)]
+    + [("counter %d" % steps, counter(steps)) for steps in (2, 8, 16, 24)]
 )
 
 

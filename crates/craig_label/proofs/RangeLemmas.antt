@@ -1,7 +1,7 @@
 -- The sides of a variable after one more part was noted for it.
-use Rattle.std.proofs.Common.{◌≡◌, ℕ, ◌≤◌, ◌<◌, min, max, Bool, true, false, ◌||◌, nat_eq, nat_le, nat_lt, Option, Some, None, inl, inr, refl, sym, ap, ◌∙◌, arith}
+use Rattle.std.proofs.Common.{◌≡◌, ℕ, ◌≤◌, ◌<◌, min, max, Bool, true, false, ◌||◌, nat_eq, nat_le, nat_lt, IfSome, Option, Some, None, inl, inr, refl, sym, ap, ◌∙◌, arith}
 use Rattle.std.proofs.lemmas.Bool.{cases_Bool, or_left, or_right, or_cases, eqb-true, eq-eqb, leb-true, le-leb, leb-false, ltb-true, ltb-false, lt-ltb}
-use Rattle.craig_label.specs.Sides.{Range, widened, is_in_a, is_in_b}
+use Rattle.craig_label.specs.Sides.{IsRange, IsSides, Range, SidesView, widened, is_in_a, is_in_b, range_of}
 
 -- two tests with the same answer
 pub same_answer : (a b : Bool) → (a ≡ true → b ≡ true) → (b ≡ true → a ≡ true) → a ≡ b
@@ -60,3 +60,8 @@ is_in_b-widened cut part None = refl
 is_in_b-widened cut part (Some r) =
     ap (λ b. b || nat_lt cut (max r.last part)) (min_zero r.first part) ∙ ap (λ b. (nat_eq r.first 0 || nat_eq part 0) || b) (max_after r.last part cut)
     ∙ regroup (nat_eq r.first 0) (nat_eq part 0) (nat_lt cut r.last) (nat_lt cut part)
+
+-- the range of a variable, where it has one, is one of the parts
+pub is_range-of : (sides : SidesView) (x : ℕ) (range : Option Range) → IsSides sides → range ≡ range_of sides x → IfSome range (λ r. IsRange sides.parts r)
+is_range-of sides x None are is = tt
+is_range-of sides x (Some r) are is = are.ranges x r (sym is)

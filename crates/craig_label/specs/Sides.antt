@@ -48,6 +48,13 @@ pub record IsNoted (old : SidesView) (x part : ℕ) (new : SidesView) : Type 0 w
   -- the range of the variable is widened, and the others stay
   pub ranges : (y : ℕ) → range_of new y ≡ (if nat_eq y x then Some (widened (range_of old x) part) else range_of old y)
 
+-- the variable has this range, or none, and all else is as it was
+pub record HasRange (old : SidesView) (x : ℕ) (range : Option Range) (new : SidesView) : Type 0 where
+  -- the number of parts stays
+  pub parts : new.parts ≡ old.parts
+  -- the range of the variable is this one, and the others stay
+  pub ranges : (y : ℕ) → range_of new y ≡ (if nat_eq y x then range else range_of old y)
+
 -- part 0 or one up to the cut has a variable of the range
 abbrev pub is_in_a : ℕ → Option Range → Bool
 is_in_a cut None = false

@@ -11,5 +11,6 @@ mod side;
 mod sides;
 
 pub use mark::Mark;
+pub use range::PartRange;
 pub use side::Side;
 pub use sides::Sides;

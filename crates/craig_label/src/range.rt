@@ -8,7 +8,7 @@ use std::marker::Model;
 /// The first and the last part that a variable was noted in. Part 0 comes before the others, so that a first part 0
 /// tells of a common variable.
 #[derive(Clone, Copy, Debug)]
-pub(crate) struct PartRange {
+pub struct PartRange {
     // the first part, which may be 0
     pub(crate) first: u16,
     // the last part

@@ -1,6 +1,6 @@
 //! The first and the last part of each variable, from which its side at each cut is read.
-ghost use Rattle.std.specs.Prelude.{◌≡◌, ◌<◌, ◌≤◌, ◌↔◌, ℕ, [], slice_index_or, vec_len, IfOk, OnOk, OnErr, None};
-ghost use Rattle.craig_label.specs.Sides.{IsNoted, IsSides, range_of, side_at};
+ghost use Rattle.std.specs.Prelude.{◌≡◌, ◌<◌, ◌≤◌, ◌↔◌, ℕ, [], slice_index_or, vec_len, IfOk, IfSome, OnOk, OnErr, None};
+ghost use Rattle.craig_label.specs.Sides.{HasRange, IsNoted, IsRange, IsSides, range_of, side_at};
 ghost use Rattle.craig_label.specs.declared.side.Side.{Side};
 
 use crate::Side;
@@ -66,6 +66,27 @@ impl Sides {
         let place = var.0 as usize;
         let range = PartRange::widened(self.ranges[place], part);
         self.ranges[place] = Some(range);
+        Ok(())
+    }
+
+    /// The first and the last part that a dense variable was noted in, where it was noted.
+    pub fn range(&self, var: Var) -> Option<PartRange>
+        ensures value { result ≡ range_of self.now var.0 }
+        ensures is_range { IfSome result (λ r. IsRange self.now.parts r) }
+    {
+        self.ranges.get(var.0 as usize).copied().flatten()
+    }
+
+    /// Gives a dense variable a range, or none, in place of what was noted of it: so notes are taken back. It takes memory
+    /// where a variable behind all noted ones gets a range. After an error all is as before.
+    pub fn set_range(&mut self, var: Var, range: Option<PartRange>) -> Result<(), AllocError>
+        requires { IfSome range (λ r. IsRange self.old.parts r) }
+        ensures set { OnOk result (HasRange self.old var.0 range self.new) }
+        ensures is_sides { IsSides self.new }
+        ensures unchanged { OnErr result (self.new ≡ self.old) }
+    {
+        reach(&mut self.ranges, var)?;
+        self.ranges[var.0 as usize] = range;
         Ok(())
     }
 

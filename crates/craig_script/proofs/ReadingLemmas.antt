@@ -2,7 +2,7 @@
 use Rattle.std.proofs.Common.{◌≡◌, IsTrue, false, List, [], ◌∷◌, ◌++◌, Result, Ok, Err, ℤ, pos, ℕ, Some, refl, sym, ◌∙◌, ap, append_assoc}
 use Rattle.craig_script.specs.declared.refusal.Refusal.{Refusal}
 use Rattle.craig_script.specs.NumberWords.{literal_of, number_of}
-use Rattle.craig_script.specs.Reading.{◌>>=◌, is_end, literals_to_end, numbers_to_end, begins_with_literal, begins_with_number}
+use Rattle.craig_script.specs.Reading.{◌>>=◌, is_end, literals_to_end, numbers_to_end, pairs_to_end, begins_with_literal, begins_with_number, begins_with_part_and_literal}
 
 -- what is read, behind literals that were read before
 abbrev pub with_front : {X : Type 0} → List X → Result (List X) Refusal → Result (List X) Refusal
@@ -39,3 +39,16 @@ numbers_to_end-number front w ws n e = with_front-cons front (pos n) (numbers_to
 -- a line of which a number is read begins with one
 pub begins-number : (w : List ℕ) (ws : List (List ℕ)) (n : ℕ) → number_of w ≡ Some n → IsTrue (begins_with_number (w ∷ ws))
 begins-number w ws n e = rw e refl
+
+pairs_to_end-cons : (w v : List ℕ) (ws : List (List ℕ)) (part : ℕ) (lit : ℤ) → number_of w ≡ Some part → literal_of v ≡ Some lit →
+    pairs_to_end (w ∷ v ∷ ws) ≡ (pairs_to_end ws >>= λ pairs. Ok ((part, lit) ∷ pairs))
+pairs_to_end-cons w v ws part lit is at = rw (is, at) refl
+
+-- a pair is read, and what is behind it is to come
+pub pairs_to_end-pair : (front : List (ℕ × ℤ)) (w v : List ℕ) (ws : List (List ℕ)) (part : ℕ) (lit : ℤ) → number_of w ≡ Some part → literal_of v ≡ Some lit →
+    with_front (front ++ (part, lit) ∷ []) (pairs_to_end ws) ≡ with_front front (pairs_to_end (w ∷ v ∷ ws))
+pairs_to_end-pair front w v ws part lit is at = with_front-cons front (part, lit) (pairs_to_end ws) ∙ sym (ap (with_front front) (pairs_to_end-cons w v ws part lit is at))
+
+-- a line of which a pair is read begins with one
+pub begins-pair : (w v : List ℕ) (ws : List (List ℕ)) (part : ℕ) (lit : ℤ) → number_of w ≡ Some part → literal_of v ≡ Some lit → IsTrue (begins_with_part_and_literal (w ∷ v ∷ ws))
+begins-pair w v ws part lit is at = rw (is, at) refl

@@ -100,10 +100,15 @@ abbrev pub cuts_of : List (List ℕ) → Result Command Refusal
 cuts_of [] = Err Syntax
 cuts_of (w ∷ ws) = if bytes_eq w (codes "all") then then_nothing ws (Cuts cut.All) else (numbers_to_end (w ∷ ws) >>= λ ns. Ok (Cuts (cut.Chosen ns)))
 
--- the end alone
+-- pairs of a part and a literal, and the end
+abbrev pub pairs_to_end : List (List ℕ) → Result (List (ℕ × ℤ)) Refusal
+pairs_to_end [] = Err Syntax
+pairs_to_end (w ∷ []) = if is_end w then Ok [] else Err Syntax
+pairs_to_end (w ∷ v ∷ ws) = or_syntax (number_of w) >>= λ part. (or_syntax (literal_of v) >>= λ lit. (pairs_to_end ws >>= λ pairs. Ok ((part, lit) ∷ pairs)))
+
+-- the assumptions of a solve, and the end
 abbrev pub solve_of : List (List ℕ) → Result Command Refusal
-solve_of [] = Err Syntax
-solve_of (w ∷ ws) = if is_end w then then_nothing ws (Solve []) else Err Syntax
+solve_of ws = pairs_to_end ws >>= λ pairs. Ok (Solve pairs)
 
 -- whether the word begins a comment
 abbrev pub is_comment : List ℕ → Bool
@@ -243,10 +248,10 @@ abbrev pub begins_with_number : List (List ℕ) → Bool
 begins_with_number [] = false
 begins_with_number (w ∷ ws) = is_some (number_of w)
 
--- whether the words begin as a clause with a literal or as chosen cuts do, which take memory to keep
+-- whether the words begin as a clause with a literal, as chosen cuts or as a solve with a pair do, which take memory to keep
 abbrev pub begins_list : List (List ℕ) → Bool
 begins_list [] = false
-begins_list (w ∷ ws) = bytes_eq w (codes "add") && begins_with_part_and_literal ws || bytes_eq w (codes "cuts") && begins_with_number ws
+begins_list (w ∷ ws) = (bytes_eq w (codes "add") || bytes_eq w (codes "solve")) && begins_with_part_and_literal ws || bytes_eq w (codes "cuts") && begins_with_number ws
 
 -- whether the line begins so
 abbrev pub may_take_memory : Line → Bool

@@ -5,7 +5,7 @@
 ghost use Rattle.std.specs.Prelude.{◌≡◌, List, ℤ, [], ◌∷◌, Ok, Err, codes, IsTrue, IsErrAnd, IfNone, IfSome, slice_index, ◌==◌};
 ghost use Rattle.std.specs.Str.{bytes_eq};
 ghost use Rattle.craig_script.specs.Words.{words};
-ghost use Rattle.craig_script.specs.Reading.{IsParsedAs, IsNoMemory, parsed, command_of, add_of, solve_of, literals_to_end, is_comment, is_end, then_nothing, begins_list, begins_with_literal, begins_with_number, begins_with_part_and_literal, may_take_memory, parts_of, system_of, mark_of, cuts_of, numbers_to_end, only_word, system_named, mark_named};
+ghost use Rattle.craig_script.specs.Reading.{IsParsedAs, IsNoMemory, parsed, command_of, add_of, solve_of, literals_to_end, is_comment, is_end, then_nothing, begins_list, begins_with_literal, begins_with_number, begins_with_part_and_literal, may_take_memory, parts_of, system_of, mark_of, cuts_of, numbers_to_end, pairs_to_end, only_word, system_named, mark_named};
 
 use crate::command::Command;
 use crate::cut_word::CutWord;
@@ -20,7 +20,7 @@ use crate::words::next_word;
 use std::alloc::Global;
 
 /// The command that a line asks for. An overlong line is refused as such, and any other line that isn't
-/// in the grammar as `Syntax`. Only the literals of a clause and chosen cuts take memory.
+/// in the grammar as `Syntax`. Only the literals of a clause, chosen cuts and pairs take memory.
 pub fn parse(alloc: Global, line: &Line) -> Result<Command, LineFault>
     ensures read { IsParsedAs result (parsed line.now) }
     ensures memory { IsErrAnd result IsNoMemory → IsTrue (may_take_memory line.now) }
@@ -143,17 +143,40 @@ fn cuts(alloc: Global, line: &[u8]) -> Result<Command, LineFault>
     Ok(Command::Cuts(CutWord::Chosen(chosen)))
 }
 
-/// The end alone.
+/// The assumptions of a solve, and the end.
 fn solve(alloc: Global, line: &[u8]) -> Result<Command, LineFault>
     ensures read { IsParsedAs result (solve_of (words line.now)) }
-    ensures memory { IsErrAnd result IsNoMemory → ⊥ }
+    ensures memory { IsErrAnd result IsNoMemory → IsTrue (begins_with_part_and_literal (words line.now)) }
 {
-    match next_word(line) {
-        Some((word, rest)) if is_word(word, b"0") && next_word(rest).is_none() => {
-            Ok(Command::Solve(Pairs::new(alloc)))
-        }
-        _ => Err(LineFault::Refused(Refusal::Syntax)),
+    let pairs = pairs(alloc, line)?;
+    Ok(Command::Solve(pairs))
+}
+
+/// Pairs of a part and a literal, and the end.
+fn pairs(alloc: Global, line: &[u8]) -> Result<Pairs, LineFault>
+    ensures read { IsParsedAs result (pairs_to_end (words line.now)) }
+    ensures memory { IsErrAnd result IsNoMemory → IsTrue (begins_with_part_and_literal (words line.now)) }
+{
+    let mut pairs = Pairs::new(alloc);
+    let mut rest = line;
+    while let Some((word, behind)) = next_word(rest) {
+        let Some((second, after)) = next_word(behind) else {
+            return if is_word(word, b"0") {
+                Ok(pairs)
+            } else {
+                Err(LineFault::Refused(Refusal::Syntax))
+            };
+        };
+        let Some(part) = number_in(word) else {
+            return Err(LineFault::Refused(Refusal::Syntax));
+        };
+        let Some(lit) = literal_in(second) else {
+            return Err(LineFault::Refused(Refusal::Syntax));
+        };
+        pairs.push((part, lit)).map_err(LineFault::NoMemory)?;
+        rest = after;
     }
+    Err(LineFault::Refused(Refusal::Syntax))
 }
 
 /// Literals, and the end.

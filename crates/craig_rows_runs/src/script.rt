@@ -64,6 +64,14 @@ fn adds(alloc: Global, line: &[u8], part: u64, lits: &[i64]) -> bool {
     }
 }
 
+/// Whether the line is read as a solve under these assumptions.
+fn solves(alloc: Global, line: &[u8], pairs: &[(u64, i64)]) -> bool {
+    match &read(alloc, 2, line) {
+        Ok(Command::Solve(read)) => read.as_slice() == pairs,
+        _ => false,
+    }
+}
+
 #[test]
 fn commands_are_read(rt: HostRuntime) {
     assert!(rt; adds(rt.alloc(), b"add 1 1 2 0", 1, &[1, 2]));
@@ -76,9 +84,8 @@ fn commands_are_read(rt: HostRuntime) {
         )
     );
     assert!(rt; adds(rt.alloc(), b"add 1 0", 1, &[]));
-    let solves =
-        matches!(&read(rt.alloc(), 2, b"solve 0"), Ok(Command::Solve(pairs)) if pairs.as_slice().is_empty());
-    assert!(rt; solves);
+    assert!(rt; solves(rt.alloc(), b"solve 0", &[]));
+    assert!(rt; solves(rt.alloc(), b"solve 1 2 0 -3 0", &[(1, 2), (0, -3)]));
 }
 
 /// Why the line is refused where there are two parts.
@@ -130,8 +137,12 @@ fn the_first_refusal_is_given(rt: HostRuntime) {
         (b"Add 1 0", Refusal::Syntax),
         (b"solve", Refusal::Syntax),
         (b"solve 0 0", Refusal::Syntax),
-        (b"solve 1 2 0", Refusal::Syntax),
         (b"solve 1", Refusal::Syntax),
+        (b"solve 1 2", Refusal::Syntax),
+        (b"solve 1 2 3 0", Refusal::Syntax),
+        (b"solve 3 2147483648 0", Refusal::Range),
+        (b"solve 1 2147483648 3 1 0", Refusal::Range),
+        (b"solve 1 2147483648 0", Refusal::Variable),
         (b"\0", Refusal::Syntax),
         (b"\xff\xfe", Refusal::Syntax),
     ] {

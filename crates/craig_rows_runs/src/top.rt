@@ -24,7 +24,7 @@ const UNSATISFIABLE: Row = Row {
 };
 
 /// Scripts that are read to their end.
-const ROWS: [Row; 24] = [
+const ROWS: [Row; 30] = [
     UNSATISFIABLE,
     Row {
         shows: "a cut variable alone, where an expansion over local ones would keep the input 2",
@@ -83,7 +83,7 @@ const ROWS: [Row; 24] = [
     },
     Row {
         shows: "what is outside of the grammar",
-        script: b"add\nadd 1\nAdd 1 0\nadd 1 -0 0\nadd 1 +1 0\nadd 1 01 0\nadd 1 1 0 0\nsolve\nsolve 0 0\nsolve 1 2 0\nsimplify\n\x00\n\xff\xfe\n",
+        script: b"add\nadd 1\nAdd 1 0\nadd 1 -0 0\nadd 1 +1 0\nadd 1 01 0\nadd 1 1 0 0\nsolve\nsolve 0 0\nsolve 1 2\nsimplify\n\x00\n\xff\xfe\n",
         replies: b"e 1\ne 1\ne 1\ne 1\ne 1\ne 1\ne 1\ne 1\ne 1\ne 1\ne 1\ne 1\ne 1\n",
     },
     Row {
@@ -130,6 +130,36 @@ const ROWS: [Row; 24] = [
         shows: "the empty clause on both sides",
         script: b"add 0 0\nsolve 0\n",
         replies: b"ok\ns UNSATISFIABLE\nf 0\na 35\naag 0 0 0 3 0\n1\n1\n0\no0 0\no1 1\no2 2\n",
+    },
+    Row {
+        shows: "two assumptions that contradict each other",
+        script: b"solve 1 7 2 -7 0\n",
+        replies: b"s UNSATISFIABLE\nf 7 -7 0\na 42\naag 1 1 0 3 0\n2\n1\n2\n0\ni0 7\no0 0\no1 1\no2 2\n",
+    },
+    Row {
+        shows: "an assumption that isn't needed is not named, and none stands for the solve after it",
+        script: b"add 1 -1 2 0\nadd 2 -2 0\nsolve 1 9 1 1 0\nsolve 0\n",
+        replies: b"ok\nok\ns UNSATISFIABLE\nf 1 0\na 42\naag 1 1 0 3 0\n2\n1\n2\n0\ni0 2\no0 0\no1 1\no2 2\ns SATISFIABLE\nv -1 -2 0\n",
+    },
+    Row {
+        shows: "a literal that is assumed in two parts fails in the first",
+        script: b"solve 1 3 2 3 1 -3 0\n",
+        replies: b"s UNSATISFIABLE\nf 3 -3 0\na 35\naag 0 0 0 3 0\n1\n0\n0\no0 0\no1 1\no2 2\n",
+    },
+    Row {
+        shows: "assumptions of part 0 are on both sides",
+        script: b"solve 0 3 0 -3 0\n",
+        replies: b"s UNSATISFIABLE\nf 3 -3 0\na 35\naag 0 0 0 3 0\n1\n1\n0\no0 0\no1 1\no2 2\n",
+    },
+    Row {
+        shows: "an assumption that contradicts a clause fails alone, and a model has the variables of all",
+        script: b"add 1 1 0\nsolve 1 5 2 -1 0 -1 0\nsolve 1 5 2 5 1 -6 0\n",
+        replies: b"ok\ns UNSATISFIABLE\nf -1 0\na 42\naag 1 1 0 3 0\n2\n1\n2\n0\ni0 1\no0 0\no1 1\no2 2\ns SATISFIABLE\nv 1 5 -6 0\n",
+    },
+    Row {
+        shows: "parts of assumptions are tested before their variables",
+        script: b"solve 1 2147483648 3 1 0\nsolve 1 2147483648 0\nsolve 1 2 3 0\nsolve 0\n",
+        replies: b"e 3\ne 4\ne 1\ns SATISFIABLE\nv 0\n",
     },
     Row {
         shows: "a chosen cut",
@@ -241,6 +271,25 @@ fn each_line_has_its_reply_in_any_pieces(rt: HostRuntime) -> Result<(), Fail> {
             assert_eq!(rt; ending.put.as_slice(), row.replies, "{}", row.shows);
         }
     }
+    Ok(())
+}
+
+/// Variable 1 is on side A alone in the first refutation, and on both sides in the second.
+const SHARED_LATER: &[u8] =
+    b"system mcmillan\nadd 1 1 2 0\nadd 1 -1 2 0\nadd 1 1 -2 0\nadd 1 -1 -2 3 0\nsolve 2 -3 0\nadd 2 -1 -3 0\nsolve 0\n";
+
+#[test]
+fn a_variable_is_shared_from_a_later_clause_on(rt: HostRuntime) -> Result<(), Fail> {
+    let ending = run(rt.alloc(), SHARED_LATER, AT_ONCE)?;
+    let begins = ending.put.as_slice().starts_with(
+        b"ok\nok\nok\nok\nok\ns UNSATISFIABLE\nf -3 0\na 42\naag 1 1 0 3 0\n2\n1\n2\n0\ni0 3\no0 0\no1 1\no2 2\nok\ns UNSATISFIABLE\nf 0\na ",
+    );
+    assert!(rt; begins);
+    let has_both = ending
+        .put
+        .as_slice()
+        .ends_with(b"i0 1\ni1 3\no0 0\no1 1\no2 2\n");
+    assert!(rt; has_both);
     Ok(())
 }
 

@@ -1,5 +1,5 @@
--- What is read as a command: a solve has no assumptions, and chosen cuts are some.
-use Rattle.std.proofs.Common.{length, nat_le, ◌≡◌, List, ℕ, ℤ, pos, [], ◌∷◌, Bool, true, false, cond, Result, Ok, Err, refl, subst}
+-- What is read as a command: chosen cuts are some.
+use Rattle.std.proofs.Common.{length, nat_le, ◌≡◌, List, ℕ, ℤ, pos, [], ◌∷◌, Bool, true, false, cond, Option, Result, Ok, Err, refl, subst}
 use Rattle.std.specs.Prelude.{codes}
 use Rattle.std.specs.Str.{bytes_eq}
 use Rattle.craig_script.specs.declared.line.Line.{Line}
@@ -12,7 +12,7 @@ use Rattle.craig_script.specs.declared.refusal.Refusal.TheVariants.{Syntax, Over
 use Rattle.craig_script.specs.Lines.{line_limit}
 use Rattle.craig_script.specs.Words.{words}
 use Rattle.craig_script.specs.NumberWords.{number_of}
-use Rattle.craig_script.specs.Reading.{◌>>=◌, or_syntax, is_end, then_nothing, only_word, literals_to_end, numbers_to_end, add_of, parts_of, system_of, system_named, mark_of, mark_named, cuts_of, solve_of, command_of, parsed, is_comment, admitted, read_line}
+use Rattle.craig_script.specs.Reading.{◌>>=◌, or_syntax, then_nothing, only_word, literals_to_end, numbers_to_end, add_of, parts_of, system_of, system_named, mark_of, mark_named, cuts_of, pairs_to_end, solve_of, command_of, parsed, is_comment, admitted, read_line}
 use Rattle.craig_top.specs.AsRead.{IsAsRead}
 
 -- the command of a reading, where there is one, is as it is read
@@ -60,8 +60,7 @@ cuts_read (w ∷ ws) =
     either (bytes_eq w (codes "all")) (then_nothing ws (Cuts cut.All)) (numbers_to_end (w ∷ ws) >>= λ ns. Ok (Cuts (cut.Chosen ns))) (nothing_read ws (Cuts cut.All) tt) (some_read (or_syntax (number_of w)) (numbers_to_end ws))
 
 solve_read : (ws : List (List ℕ)) → AllAsRead (solve_of ws)
-solve_read [] = tt
-solve_read (w ∷ ws) = either (is_end w) _ _ (nothing_read ws (Solve []) refl) tt
+solve_read ws = made (pairs_to_end ws) (λ pairs. Ok (Solve pairs)) (λ pairs. tt)
 
 command_read : (ws : List (List ℕ)) → AllAsRead (command_of ws)
 command_read [] = tt

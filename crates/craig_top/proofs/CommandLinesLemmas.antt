@@ -1,8 +1,8 @@
 -- Which words a line has that is read as a command.
-use Rattle.std.proofs.Common.{◌≡◌, ◌∙◌, sym, ap, subst, refl, ℕ, zero, suc, ◌≤◌, Bool, true, false, not, ◌&&◌, ◌==◌, nat_le, cond, List, [], ◌∷◌, ◌++◌, length, map, Option, Some, None, option_map, Result, Ok, Err, codes, drop, ℤ, pos, neg_ℤ, leb-true}
+use Rattle.std.proofs.Common.{◌≡◌, ◌≢◌, ◌∙◌, sym, ap, subst, refl, ℕ, zero, suc, ◌+◌, ◌<◌, ◌≤◌, Bool, true, false, not, ◌&&◌, ◌==◌, nat_le, cond, List, [], ◌∷◌, ◌++◌, length, map, Contains, Option, Some, None, option_map, slice_get, Result, Ok, Err, codes, drop, ℤ, pos, negsuc, neg_ℤ, leb-true, arith, inl, inr}
 use Rattle.std.specs.Fmt.{decimal, signed_decimal}
 use Rattle.std.specs.Int.RustNames.{unsigned_abs}
-use Rattle.std.specs.List.{list_all}
+use Rattle.std.specs.List.{flat_map, list_all}
 use Rattle.std.specs.Str.{bytes_eq}
 use Rattle.std.proofs.lemmas.Bool.{and_parts, eq-eqb, eqb-true}
 use Rattle.std.proofs.lemmas.Slice.Eq.{bytes_eq-Decides}
@@ -10,19 +10,22 @@ use Rattle.craig_script.specs.declared.command.Command.{Command}
 use Rattle.craig_script.specs.declared.command.Command.TheVariants.{Nothing, Parts, Add, System, Mark, Cuts, Solve}
 use Rattle.craig_script.specs.declared.cut_word.CutWord.TheVariants as cut
 use Rattle.craig_script.specs.declared.setting_words.MarkWord.{MarkWord}
+use Rattle.craig_script.specs.declared.setting_words.MarkWord.TheVariants as mark
 use Rattle.craig_script.specs.declared.setting_words.SystemWord.{SystemWord}
+use Rattle.craig_script.specs.declared.setting_words.SystemWord.TheVariants as system
 use Rattle.craig_script.specs.declared.line.Line.{Line}
 use Rattle.craig_script.specs.declared.line.Line.TheVariants as line
 use Rattle.craig_script.specs.declared.refusal.Refusal.{Refusal}
 use Rattle.craig_script.specs.declared.refusal.Refusal.TheVariants.{Syntax, Overlong, Range, Variable, LateParts, CutRange}
 use Rattle.craig_script.specs.Lines.{line_limit}
 use Rattle.craig_script.specs.NumberWords.{is_negated, literal_of, number_of, unless_zero}
-use Rattle.craig_script.specs.Reading.{◌>>=◌, add_of, admitted, are_cuts_within, are_parts_within, command_of, cuts_of, gives_parts, is_comment, is_end, is_within, literals_to_end, mark_named, mark_of, numbers_to_end, only_word, or_syntax, parsed, parts_of, solve_of, system_named, system_of, then_nothing, variable_limit, variables_named}
+use Rattle.craig_script.specs.Reading.{◌>>=◌, add_of, admitted, are_cuts_within, are_parts_within, command_of, cuts_of, gives_parts, is_comment, is_end, is_within, literals_to_end, mark_named, mark_of, numbers_to_end, only_word, or_syntax, pairs_to_end, parsed, parts_of, solve_of, system_named, system_of, then_nothing, variable_limit, variables_named}
 use Rattle.craig_script.specs.Words.{words}
 use Rattle.craig_spec.specs.Cut.{PartClause}
 use Rattle.craig_spec.proofs.MemberLemmas.{Contains-image, list_all-member}
 use Rattle.craig_script.proofs.NumbersLemmas.{option_map-some}
-use Rattle.craig_top.specs.CommandLines.{AreInRange, AreRisingCuts, add_words, all_cuts_words, cuts_words, mark_word, mark_words, parts_words, solve_words, system_word, system_words}
+use Rattle.craig_top.specs.AsRead.{IsAsRead}
+use Rattle.craig_top.specs.CommandLines.{AreInRange, ArePairsInRange, AreRisingCuts, add_words, all_cuts_words, cuts_words, mark_word, mark_words, parts_words, solve_words, system_word, system_words}
 use Rattle.craig_top.specs.GivenState.{State, any_clause, reading}
 use Rattle.craig_top.proofs.AsReadLemmas.{as_read}
 use Rattle.craig_top.proofs.RisingCutsLemmas.{rising-cuts, within-cuts}
@@ -115,7 +118,7 @@ Worded (System s) ws = ws ≡ system_words s
 Worded (Mark name m) ws = ws ≡ mark_words name m
 Worded (Cuts cut.All) ws = ws ≡ all_cuts_words
 Worded (Cuts (cut.Chosen zs)) ws = ws ≡ cuts_words zs
-Worded (Solve pairs) ws = (pairs ≡ []) × (ws ≡ solve_words)
+Worded (Solve pairs) ws = ws ≡ solve_words pairs
 
 -- ---- the tests on what a command names
 
@@ -205,6 +208,21 @@ module _ (literal_form : (word : List ℕ) (z : ℤ) → literal_of word ≡ Som
   numbers-words [] zs e = ap (map signed_decimal) (same_ok [] zs e)
   numbers-words (w ∷ ws) zs e = numbers-cases w ws zs e (numbers-words ws)
 
+  -- pairs, and the end
+  pairs-words : (ws : List (List ℕ)) (pairs : List (ℕ × ℤ)) → pairs_to_end ws ≡ Ok pairs → ws ≡ flat_map (λ pair. decimal pair.0 ∷ (signed_decimal pair.1 ∷ [])) pairs ++ codes "0" ∷ []
+  pairs-words [] pairs e = absurd (cc)
+  pairs-words (w ∷ []) pairs e =
+      let end = checked-ok (is_end w) (Ok []) Syntax pairs e in
+      ap (λ v. v ∷ []) (is_zero_word w end.0) ∙ ap (λ (ps : List (ℕ × ℤ)). flat_map (λ pair. decimal pair.0 ∷ (signed_decimal pair.1 ∷ [])) ps ++ codes "0" ∷ []) (same_ok [] pairs end.1)
+  pairs-words (w ∷ (v ∷ ws)) pairs e =
+      let one = bind-ok (or_syntax (number_of w)) (λ part. or_syntax (literal_of v) >>= λ lit. (pairs_to_end ws >>= λ ps. Ok ((part, lit) ∷ ps))) pairs e in
+      let two = bind-ok (or_syntax (literal_of v)) (λ lit. pairs_to_end ws >>= λ ps. Ok ((one.0, lit) ∷ ps)) pairs one.2 in
+      let three = bind-ok (pairs_to_end ws) (λ ps. Ok ((one.0, two.0) ∷ ps)) pairs two.2 in
+      ap (λ u. u ∷ (v ∷ ws)) (number_form w one.0 (or_syntax-ok (number_of w) one.0 one.1))
+      ∙ ap (λ u. decimal one.0 ∷ (u ∷ ws)) (literal_form v two.0 (or_syntax-ok (literal_of v) two.0 two.1))
+      ∙ ap (λ us. decimal one.0 ∷ (signed_decimal two.0 ∷ us)) (pairs-words ws three.0 three.1)
+      ∙ ap (λ (ps : List (ℕ × ℤ)). flat_map (λ pair. decimal pair.0 ∷ (signed_decimal pair.1 ∷ [])) ps ++ codes "0" ∷ []) (same_ok ((one.0, two.0) ∷ three.0) pairs three.2)
+
   -- ---- the words of each command
 
   -- a reading that gives a command by its words
@@ -253,11 +271,9 @@ module _ (literal_form : (word : List ℕ) (z : ℤ) → literal_of word ≡ Som
   cuts-worded (w ∷ ws) c e = cuts-cases w ws c (bytes_eq w (codes "all")) refl e
 
   solve-worded : (ws : List (List ℕ)) (c : Command) → solve_of ws ≡ Ok c → Worded c (codes "solve" ∷ ws)
-  solve-worded [] c e = absurd (cc)
-  solve-worded (w ∷ ws) c e =
-      let end = checked-ok (is_end w) (then_nothing ws (Solve [])) Syntax c e in
-      let none = nothing-ok ws (Solve []) c end.1 in
-      subst (λ d. Worded d (codes "solve" ∷ (w ∷ ws))) none.1 (refl, ap (λ v. codes "solve" ∷ (v ∷ ws)) (is_zero_word w end.0) ∙ ap (λ vs. codes "solve" ∷ (codes "0" ∷ vs)) none.0)
+  solve-worded ws c e =
+      let found = bind-ok (pairs_to_end ws) (λ pairs. Ok (Solve pairs)) c e in
+      subst (λ d. Worded d (codes "solve" ∷ ws)) (same_ok (Solve found.0) c found.2) (ap (λ vs. codes "solve" ∷ vs) (pairs-words ws found.0 found.1))
 
   -- one word is tested after the other
   tested : (name w : List ℕ) (ws : List (List ℕ)) (here rest : Result Command Refusal) (c : Command) (b : Bool) → bytes_eq w name ≡ b → cond b here rest ≡ Ok c → (here ≡ Ok c → Worded c (name ∷ ws)) → (rest ≡ Ok c → Worded c (w ∷ ws)) → Worded c (w ∷ ws)
@@ -325,8 +341,15 @@ module _ (literal_form : (word : List ℕ) (z : ℤ) → literal_of word ≡ Som
         ),
       )
 
-  pub line_that_solves : (state : State) (bytes : List ℕ) (pairs : List (ℕ × ℤ)) → reading state (line.Text bytes) ≡ Ok (Solve pairs) → (pairs ≡ []) × (words bytes ≡ solve_words)
-  line_that_solves state bytes pairs e = worded state bytes (Solve pairs) e
+  pub line_that_solves : (state : State) (bytes : List ℕ) (pairs : List (ℕ × ℤ)) → reading state (line.Text bytes) ≡ Ok (Solve pairs) → (words bytes ≡ solve_words pairs) × ArePairsInRange state.settings.parts pairs
+  line_that_solves state bytes pairs e =
+      let tests = admitted-tests state (Solve pairs) (read-ok state (line.Text bytes) (Solve pairs) e).1 in (
+        worded state bytes (Solve pairs) e,
+        λ pair here. (
+            let range = number_range (unsigned_abs pair.1) (list_all-member (is_within variable_limit) (map (λ (p : ℕ × ℤ). unsigned_abs p.1) pairs) (unsigned_abs pair.1) (Contains-image (λ (p : ℕ × ℤ). unsigned_abs p.1) pairs pair here) tests.2) in
+            (leb-true pair.0 state.settings.parts (list_all-member (λ (p : ℕ × ℤ). nat_le p.0 state.settings.parts) pairs pair here tests.1), range.0, range.1)
+            ),
+      )
 
 pub overlong_line : (state : State) → reading state line.Overlong ≡ Err Overlong
 overlong_line state = refl

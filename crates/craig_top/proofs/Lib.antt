@@ -41,3 +41,5 @@ pub mod CommandLinesLemmas
 pub mod SystemsLemmas
 pub mod WrittenOutputsLemmas
 pub mod StrengthLemmas
+pub mod AssumptionLemmas
+pub mod PutBackLemmas

@@ -28,21 +28,6 @@ bytes-appended (Ok x) bytes begun first last n count a b =
     regrouped p t u v w = simp append_assoc
 bytes-appended (Err x) bytes begun first last n count a b = tt
 
--- a model is a verdict, whichever root is the last
-pub verdict_of_model : {T E : Type 0} (r : Result T E) (settings : ScriptSettings) (names : List ℕ) (kept : List ToldStep) (last : Option ℕ) (accepted : List (Part × Clause)) (old new : List ℕ)
-    → OnOk r ((literals : List Literal) × IsModelReply (map (named_clause names) (map (λ a. a.1) accepted)) literals × (new ≡ old ++ satisfiable_text literals))
-    → OnOk r ((text : List ℕ) × IsSolveReplyBy names kept last (stored_state settings names accepted) [] text × (new ≡ old ++ text))
-verdict_of_model (Ok x) settings names kept last accepted old new found =
-    (satisfiable_text found.0, inl (found.0, rw (append-nil (given_clauses (stored_state settings names accepted)), given_clauses-stored settings names accepted) found.1, refl), found.2)
-verdict_of_model (Err x) settings names kept last accepted old new found = tt
-
--- so is a refutation by the last root
-pub verdict_of_refutation : {T E : Type 0} (r : Result T E) (names : List ℕ) (kept : List ToldStep) (last : Option ℕ) (state : State) (failed : List PartLiteral) (old new : List ℕ) → NamesFailed [] failed
-    → OnOk r ((text : List ℕ) × ((assumptions : List PartLiteral) → NamesFailed assumptions failed → IsRefutationBy names kept last state assumptions text) × (new ≡ old ++ text))
-    → OnOk r ((text : List ℕ) × IsSolveReplyBy names kept last state [] text × (new ≡ old ++ text))
-verdict_of_refutation (Ok x) names kept last state failed old new none found = (found.0, inr (found.1 [] none), found.2)
-verdict_of_refutation (Err x) names kept last state failed old new none found = tt
-
 -- literals that are a model reply are put
 pub model-appended : {T E : Type 0} (r : Result T E) (clauses : List Clause) (literals : List Literal) (old new : List ℕ) → IsModelReply clauses literals → OnOk r (new ≡ old ++ satisfiable_text literals)
     → OnOk r ((ls : List Literal) × IsModelReply clauses ls × (new ≡ old ++ satisfiable_text ls))

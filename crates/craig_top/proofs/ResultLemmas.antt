@@ -10,3 +10,8 @@ appended P (Err x) text old new p e = tt
 pub after_error : {T E : Type 0} (r : Result T E) (P : Type 0) → P → OnErr r P
 after_error (Ok x) P p = tt
 after_error (Err x) P p = p
+
+-- or where there was none
+pub always : {T E : Type 0} (r : Result T E) (P : Type 0) → P → OnOk r P
+always (Ok x) P p = p
+always (Err x) P p = tt

@@ -1,8 +1,8 @@
 -- What a session keeps, when names or a clause are added.
-use Rattle.std.proofs.Common.{ap, sym, suc, false, max, nat_eq, not, ◌∙◌, length, ℕ, ◌≤◌, ◌≡◌, List, [], ◌∷◌, ◌++◌, map, Bool, Result, Ok, Err, ℤ, refl, arith}
-use Rattle.std.proofs.lemmas.Bool.{ne_eqb}
+use Rattle.std.proofs.Common.{ap, subst, sym, suc, false, max, nat_eq, not, ◌∙◌, length, ℕ, ◌≤◌, ◌≡◌, List, [], ◌∷◌, ◌++◌, map, Bool, Result, Ok, Err, ℤ, refl, arith}
+use Rattle.std.proofs.lemmas.Bool.{and_from, and_parts, ne_eqb}
 use Rattle.std.proofs.lemmas.List.{map-append}
-use Rattle.craig_spec.specs.Literal.{Clause}
+use Rattle.craig_spec.specs.Literal.{Clause, Literal}
 use Rattle.craig_spec.specs.Cut.{PartClause}
 use Rattle.craig_base.specs.declared.script_part.Part.{Part}
 use Rattle.craig_label.specs.Sides.{SidesView, IsSides}
@@ -15,8 +15,10 @@ use Rattle.craig_top.specs.GivenState.{ScriptSettings, any_clause, script_litera
 use Rattle.craig_top.specs.Growth.{NamesGrow}
 use Rattle.craig_top.specs.Values.{IsOver}
 use Rattle.craig_top.specs.Naming.{named_clause, written}
-use Rattle.craig_top.specs.Sides.{NotesClause, parted}
-use Rattle.craig_top.specs.Stored.{stored_state, AreStoredTogether, HaveNames}
+use Rattle.craig_search.specs.Verdict.{Assumptions}
+use Rattle.craig_top.specs.Sides.{AreSidesOf, NotesClause, parted, with_assumed}
+use Rattle.craig_top.specs.declared.stored.Stored.{Stored}
+use Rattle.craig_top.specs.Stored.{AreStoredTogether, HaveNames, IsSameButForRanges, given_state, stored_state}
 use Rattle.craig_top.proofs.GrowthLemmas.{AreOver-more, AreOver-push, written-grows}
 use Rattle.craig_top.proofs.SidesLemmas.{AreSidesOf-push, parted-push}
 
@@ -54,6 +56,24 @@ AreStoredTogether-added old new before after accepted pushed part c vars known k
   sides_are = AreSidesOf-push (parted accepted) (parted pushed) before after (record { part = part.0; clause = c }) kept.sides_are noted sides high (ap parted push ∙ parted-push accepted part c);
   known = (let more = grows.longer in let low = kept.known in omega arith);
 }
+
+-- names that only grew, and variables that have names
+pub AreStoredTogether-grown : (old new : List ℕ) (sides : SidesView) (accepted now : List (Part × Clause)) (vars known : ℕ) → AreStoredTogether old sides accepted vars → NamesGrow old new → now ≡ accepted → known ≤ length new → AreStoredTogether new sides now known
+AreStoredTogether-grown old new sides accepted now vars known kept grows same low = record {
+  stored = subst (HaveNames new) (sym same) (HaveNames-grows old new accepted grows kept.stored);
+  sides_are = subst (λ (cs : List (Part × Clause)). AreSidesOf (parted cs) sides) (sym same) kept.sides_are;
+  known = low;
+}
+
+-- ranges don't belong to the given state
+pub given_state-same : (old new : Stored) → IsSameButForRanges old new → given_state new ≡ given_state old
+given_state-same old new same = rw (same.names, same.parts, same.choices, same.solver) refl
+
+-- the units of assumptions have names where these have
+pub HaveNames-assumed : (names : List ℕ) (accepted : List (Part × Clause)) (assumptions : Assumptions) → HaveNames names accepted → IsOver (length names) (map (λ (a : Part × Literal). a.1) assumptions) → HaveNames names (with_assumed accepted assumptions)
+HaveNames-assumed names [] [] stored over = refl
+HaveNames-assumed names [] (a ∷ assumptions) stored over = let parts = and_parts _ _ over in and_from _ _ (and_from _ _ parts.0 refl) (HaveNames-assumed names [] assumptions stored parts.1)
+HaveNames-assumed names (c ∷ accepted) assumptions stored over = let parts = and_parts _ _ stored in and_from _ _ parts.0 (HaveNames-assumed names accepted assumptions parts.1 over)
 
 -- where a number of parts is admitted, no clause is accepted
 pub none_accepted : (parts : ℕ) (names : List ℕ) (accepted : List (Part × Clause)) (n : ℕ) → admitted parts (any_clause (written names accepted)) (Parts n) ≡ Ok tt → accepted ≡ []

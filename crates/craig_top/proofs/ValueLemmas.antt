@@ -5,7 +5,6 @@ use Rattle.std.specs.List.{list_any, list_all}
 use Rattle.craig_spec.specs.Literal.{Clause}
 use Rattle.craig_spec.specs.Truth.{IsModel, variable_value, clause_value}
 use Rattle.craig_base.specs.Values.{assignment_of_values}
-use Rattle.craig_search.specs.Verdict.{units}
 use Rattle.craig_top.specs.Values.{value_at, all_hold, IsOver, AreOver}
 
 -- a test of the images is a test of the elements
@@ -23,9 +22,9 @@ module _ (law : (values : List Bool) (x : ℕ) → variable_value (assignment_of
   all_hold-values [] = refl
   all_hold-values (c ∷ cs) = rw (clause_value-values c, all_hold-values cs) refl
 
-  -- a model of clauses and no assumption
-  pub all_hold-from_model : (cs : List Clause) → IsModel (assignment_of_values values) (cs ++ units []) → all_hold values cs ≡ true
-  all_hold-from_model cs model = sym (all_hold-values cs) ∙ subst (λ (ds : List Clause). list_all (clause_value (assignment_of_values values)) ds ≡ true) (append-nil cs) model
+  -- so does a model
+  pub all_hold-from_model : (cs : List Clause) → IsModel (assignment_of_values values) cs → all_hold values cs ≡ true
+  all_hold-from_model cs model = sym (all_hold-values cs) ∙ model
 
 -- clauses over n variables are so one by one
 pub IsOver-at : {A : Type 0} (n : ℕ) (labelled : List (A × Clause)) (i : ℕ) (d : A × Clause) → AreOver n (map (λ c. c.1) labelled) → i < length labelled → IsOver n (get_or labelled i d).1

@@ -1,10 +1,15 @@
 -- The verdict on a solve, by the root of its answer.
-use Rattle.std.proofs.Common.{◌≡◌, ◌∙◌, ◌≤◌, sym, ap, subst, refl, arith, max, map, None, ℕ, ℤ, List, [], ◌++◌, Option, Result, Ok, Err, OnOk, inl, inr, ◌∷◌}
+use Rattle.std.proofs.Common.{◌≡◌, ◌∙◌, ◌<◌, ◌≤◌, ◌&&◌, sym, ap, subst, refl, arith, max, map, nat_le, not, Bool, true, false, Some, None, ℕ, ℤ, List, [], ◌∷◌, ◌++◌, length, get_or, All, Contains, Option, Result, Ok, Err, OnOk, inl, inr, if◌then◌else◌}
 use Rattle.craig_base.proofs.LiteralsLemmas.{negation-differs}
 use Rattle.craig_spec.proofs.MemberLemmas.{Contains-image, Contains-one}
-use Rattle.std.proofs.lemmas.List.Elements.{Contains-append_left, Contains-append_right}
+use Rattle.std.specs.Int.RustNames.{unsigned_abs}
+use Rattle.std.specs.List.{list_all}
+use Rattle.std.proofs.lemmas.List.Elements.{Contains-append_left, Contains-append_right, Contains-get_or}
 use Rattle.craig_spec.specs.Literal.{Clause, Literal, negation}
-use Rattle.craig_spec.specs.Chain.{SameLiterals, Told, ToldStep}
+use Rattle.craig_spec.specs.Chain.{IsTold, SameLiterals, Told, ToldStep, clause_told}
+use Rattle.craig_spec.specs.Cut.{PartLiteral}
+use Rattle.craig_spec.specs.Truth.{IsModel}
+use Rattle.craig_base.specs.Values.{assignment_of_values}
 use Rattle.craig_spec.specs.FailedAssumptions.{NamesFailed}
 use Rattle.craig_base.specs.Clauses.{IsNormal}
 use Rattle.craig_base.specs.declared.clause_id.ClauseId.{ClauseId}
@@ -13,19 +18,25 @@ use Rattle.craig_script.specs.declared.command.Command.{Command}
 use Rattle.craig_script.specs.declared.command.Command.TheVariants.{Nothing, Parts, Add, System, Mark, Cuts, Solve}
 use Rattle.craig_script.specs.declared.refusal.Refusal.{Refusal}
 use Rattle.craig_search.specs.Tells.{IsUnitStep}
-use Rattle.craig_search.specs.Verdict.{Assumptions, at_places}
+use Rattle.craig_search.specs.Verdict.{AreFirstPlaces, Assumptions, at_places, units}
 use Rattle.craig_solver.specs.declared.answer.Answer.{Answer}
-use Rattle.craig_solver.specs.declared.answer.Answer.TheVariants.{Failed}
+use Rattle.craig_solver.specs.declared.answer.Answer.TheVariants.{Failed, Model}
 use Rattle.craig_solver.specs.Answer.{IsAnswer, accepted_clauses}
 use Rattle.craig_solver.specs.Told.{IsAcceptedStep, IsRefutation, TellsAnswer}
-use Rattle.craig_top.specs.GivenState.{ScriptSettings, State}
-use Rattle.craig_top.specs.LastRefutation.{SessionView, IsByLastRoot, IsSolveReplyBy, ReadingIsByLastRoot}
+use Rattle.craig_script.specs.declared.refusal.Refusal.TheVariants.{CutRange, LateParts, Range, Variable}
+use Rattle.craig_script.specs.Reading.{admitted, is_within, variable_limit}
+use Rattle.craig_top.specs.GivenState.{ScriptSettings, State, given_clauses}
+use Rattle.craig_top.specs.LastRefutation.{SessionView, IsByLastRoot, IsRefutationBy, IsSolveReplyBy, ReadingIsByLastRoot}
 use Rattle.craig_top.specs.Naming.{named_assumptions}
-use Rattle.craig_top.specs.Reply.{IsSolveReply, RepliesTo}
-use Rattle.craig_top.specs.RestsOn.{RestsOn}
+use Rattle.craig_top.specs.ModelReply.{IsModelReply}
+use Rattle.craig_top.specs.Reply.{IsSolveReply, RepliesTo, assuming, assumptions_of}
+use Rattle.craig_top.specs.RestsOn.{IsEmptyAt, RestsOn}
 use Rattle.craig_top.specs.Sides.{with_assumed}
-use Rattle.craig_top.specs.ReplyTexts.{ok_text}
+use Rattle.craig_top.specs.ReplyTexts.{ok_text, satisfiable_text}
 use Rattle.craig_top.specs.Stored.{stored_state}
+use Rattle.craig_top.specs.Values.{IsOver}
+use Rattle.craig_top.proofs.AssumptionLemmas.{literals}
+use Rattle.craig_top.proofs.OverLemmas.{IsOver-contains}
 
 -- a refutation under assumptions rests on the clauses and on the units of those that failed
 IsAcceptedStep-assumed : (accepted : List (Part × Clause)) (failed : Assumptions) (s : ToldStep) → IsAcceptedStep accepted s → IsAcceptedStep (with_assumed accepted failed) s
@@ -63,52 +74,10 @@ RestsOn-told accepted assumptions root places t refutation s here is needed = el
   | inr step ↦ IsUnitStep-assumed accepted assumptions places s step
 ]
 
--- where nothing is assumed, nothing fails
-none_at : (places : List ℕ) → at_places [] places ≡ []
-none_at [] = refl
-none_at (p ∷ places) = none_at places
-
-pub RestsOn-unassuming : (accepted : List (Part × Clause)) (failed : Assumptions) (root : ClauseId) (places : List ℕ) (answer : Answer) (t : Told) → failed ≡ [] → answer ≡ Failed root places → TellsAnswer accepted [] answer t → RestsOn (with_assumed accepted failed) t root.0
-RestsOn-unassuming accepted failed root places answer t none is tells =
-    let refutation : IsRefutation accepted [] root.0 places t = subst (λ (a : Answer). TellsAnswer accepted [] a t) is tells in
-    subst (λ (f : Assumptions). RestsOn (with_assumed accepted f) t root.0) (none_at places ∙ sym none) (RestsOn-told accepted [] root.0 places t refutation)
-
--- no assumption names no failed one
-pub none_failed : (names : List ℕ) (failed : Assumptions) → failed ≡ [] → NamesFailed [] (named_assumptions names failed)
-none_failed names failed none = subst (λ (f : Assumptions). NamesFailed [] (named_assumptions names f)) (sym none) (record {
-  places = [];
-  rising = λ k within. absurd (omega (arith, within));
-  failed_are = refl;
-  first = λ p q a b here is before at. absurd (omega (arith, here.1));
-})
-
 -- a verdict by a root is a verdict
 pub verdict_by : (names : List ℕ) (kept : List ToldStep) (last : Option ℕ) (state : State) (pairs : List (ℕ × ℤ)) (text : List ℕ) → IsSolveReplyBy names kept last state pairs text → IsSolveReply state pairs text
 verdict_by names kept last state pairs text (inl model) = inl model
 verdict_by names kept last state pairs text (inr refutation) = inr refutation.0
-
--- a verdict on what a session keeps, by the root of the answer, is one on its state by the last root
-pub verdict-stored : (state : State) (settings now_settings : ScriptSettings) (names : List ℕ) (before kept : List ToldStep) (answered last : Option ℕ) (accepted now : List (Part × Clause)) (old new : List ℕ) → stored_state settings names accepted ≡ state → now ≡ accepted → now_settings ≡ settings
-    → before ≡ kept → last ≡ answered
-    → (text : List ℕ) × IsSolveReplyBy names before answered (stored_state now_settings names now) [] text × (new ≡ old ++ text) → (text : List ℕ) × IsSolveReplyBy names kept last state [] text × (new ≡ old ++ text)
-verdict-stored state settings now_settings names before kept answered last accepted now old new e same many told root found =
-    let is : stored_state now_settings names now ≡ state = ap (λ n. stored_state n names now) many ∙ ap (stored_state settings names) same ∙ e in
-    let by_state : IsSolveReplyBy names before answered state [] found.0 = subst (λ (s : State). IsSolveReplyBy names before answered s [] found.0) is found.1 in
-    let by_steps : IsSolveReplyBy names kept answered state [] found.0 = subst (λ steps. IsSolveReplyBy names steps answered state [] found.0) told by_state in
-    (found.0, subst (λ r. IsSolveReplyBy names kept r state [] found.0) (sym root) by_steps, found.2)
-
--- with no assumptions it is the reply to the command, and by the last root
-pub reply-unassuming : {T E : Type 0} (r : Result T E) (names : List ℕ) (kept : List ToldStep) (last : Option ℕ) (state : State) (pairs : List (ℕ × ℤ)) (old new : List ℕ) → pairs ≡ []
-    → OnOk r ((text : List ℕ) × IsSolveReplyBy names kept last state [] text × (new ≡ old ++ text))
-    → OnOk r ((text : List ℕ) × IsSolveReply state pairs text × (new ≡ old ++ text))
-reply-unassuming (Ok x) names kept last state pairs old new none found = (found.0, subst (λ (ps : List (ℕ × ℤ)). IsSolveReply state ps found.0) (sym none) (verdict_by names kept last state [] found.0 found.1), found.2)
-reply-unassuming (Err x) names kept last state pairs old new none found = tt
-
-pub refutation-unassuming : {T E : Type 0} (r : Result T E) (names : List ℕ) (kept : List ToldStep) (last : Option ℕ) (state : State) (pairs : List (ℕ × ℤ)) (old new : List ℕ) → pairs ≡ []
-    → OnOk r ((text : List ℕ) × IsSolveReplyBy names kept last state [] text × (new ≡ old ++ text))
-    → OnOk r ((text : List ℕ) × IsSolveReplyBy names kept last state pairs text × (new ≡ old ++ text))
-refutation-unassuming r names kept last state pairs old new none found =
-    subst (λ (ps : List (ℕ × ℤ)). OnOk r ((text : List ℕ) × IsSolveReplyBy names kept last state ps text × (new ≡ old ++ text))) (sym none) found
 
 -- a reply to the command that was read is one to the line
 pub refutation-read : {T E : Type 0} (r : Result T E) (view : SessionView) (state : State) (command : Command) (read : Result Command Refusal) (old new : List ℕ) → read ≡ Ok command
@@ -137,9 +106,88 @@ no_refutation view state (Mark name mark) text other = tt
 no_refutation view state (Cuts cuts) text other = tt
 no_refutation view state (Solve pairs) text other = absurd (other pairs refl)
 
--- the answer is one of the lent clauses and of as many variables as have names
-pub answer-stored : (held lent : List (Part × Clause)) (vars known counted count : ℕ) (a : Answer) → lent ≡ held → known ≡ max vars counted → counted ≡ count → vars ≤ count → IsAnswer (accepted_clauses held) known [] None a
-    → IsAnswer (map (λ c. c.1) lent) count [] None a
-answer-stored held lent vars known counted count a same reached is_count low is =
-    let all : known ≡ count = omega (arith, reached, is_count, low) in
-    subst (λ n. IsAnswer (map (λ c. c.1) lent) n [] None a) all (subst (λ (cs : List (Part × Clause)). IsAnswer (accepted_clauses cs) known [] None a) (sym same) is)
+-- ---- what is known of the lent clauses and assumptions
+
+-- the assumptions are over known variables
+pub assumed-known : (n vars : ℕ) (assumptions lent : Assumptions) → lent ≡ assumptions → IsOver n (literals assumptions) → n ≤ vars → All (λ (a : Part × Literal). a.1.var < vars) lent
+assumed-known n vars assumptions lent same over low i d within =
+    let inside : i < length assumptions = subst (λ (xs : Assumptions). i < length xs) same within in
+    let below : (get_or assumptions i d).1.var < n = IsOver-contains n (literals assumptions) (get_or assumptions i d).1 over (Contains-image (λ (a : Part × Literal). a.1) assumptions (get_or assumptions i d) (Contains-get_or assumptions i d inside)) in
+    subst (λ (xs : Assumptions). (get_or xs i d).1.var < vars) (sym same) (omega (arith, below, low))
+
+-- a model of the held clauses and the assumptions is one of the lent ones
+pub model-stored : (held lent : List (Part × Clause)) (given assumptions : Assumptions) (known vars counted count : ℕ) (a : Answer) (values : List Bool) → lent ≡ held → given ≡ assumptions → known ≡ max vars counted → counted ≡ count → vars ≤ count → a ≡ Model values
+    → IsAnswer (accepted_clauses held) known given None a → (length values ≡ count) × IsModel (assignment_of_values values) (map (λ c. c.1) lent ++ units assumptions)
+model-stored held lent given assumptions known vars counted count a values same as_given reached is_count low is answer =
+    let model = subst (λ (b : Answer). IsAnswer (accepted_clauses held) known given None b) is answer in (
+      omega (arith, model.0, reached, is_count, low),
+      subst (λ (cs : List (Part × Clause)). IsModel (assignment_of_values values) (map (λ c. c.1) cs ++ units assumptions)) (sym same)
+          (subst (λ (xs : Assumptions). IsModel (assignment_of_values values) (map (λ c. c.1) held ++ units xs)) as_given model.1),
+    )
+
+-- the places of an answer that fails are first ones
+pub failed-places : (held : List Clause) (known : ℕ) (given assumptions : Assumptions) (a : Answer) (root : ClauseId) (places : List ℕ) → given ≡ assumptions → a ≡ Failed root places → IsAnswer held known given None a → AreFirstPlaces assumptions places
+failed-places held known given assumptions a root places as_given is answer =
+    let failed = subst (λ (b : Answer). IsAnswer held known given None b) is answer in
+    subst (λ (xs : Assumptions). AreFirstPlaces xs places) as_given failed.0
+
+-- what was told of them is a refutation
+pub failed-told : (held : List (Part × Clause)) (given assumptions : Assumptions) (a : Answer) (root : ClauseId) (places : List ℕ) (t : Told) → given ≡ assumptions → a ≡ Failed root places → TellsAnswer held given a t → IsRefutation held assumptions root.0 places t
+failed-told held given assumptions a root places t as_given is told =
+    subst (λ (xs : Assumptions). IsRefutation held xs root.0 places t) as_given (subst (λ (b : Answer). TellsAnswer held given b t) is told)
+
+-- its root is an empty clause
+pub empty-told : ((t : Told) (s : ToldStep) → IsTold t → Contains t.steps s → clause_told t.steps s.id ≡ Some s.literals) → (t : Told) (root : ℕ) → IsTold t → IsEmptyAt t.steps root → clause_told t.steps root ≡ Some []
+empty-told found t root told step = sym (ap (clause_told t.steps) step.2) ∙ found t step.0 told step.1 ∙ ap (λ (c : Clause). Some c) step.3
+
+-- ---- replies
+
+-- a model is a verdict, whichever root is the last
+pub model-reply : {T E : Type 0} (r : Result T E) (state : State) (names : List ℕ) (kept : List ToldStep) (last : Option ℕ) (clauses : List Clause) (pairs : List (ℕ × ℤ)) (old new : List ℕ) → clauses ≡ assuming (given_clauses state) pairs
+    → OnOk r ((literals : List Literal) × IsModelReply clauses literals × (new ≡ old ++ satisfiable_text literals))
+    → OnOk r ((text : List ℕ) × IsSolveReplyBy names kept last state pairs text × (new ≡ old ++ text))
+model-reply (Ok x) state names kept last clauses pairs old new same found =
+    (satisfiable_text found.0, inl (found.0, subst (λ (cs : List Clause). IsModelReply cs found.0) same found.1, refl), found.2)
+model-reply (Err x) state names kept last clauses pairs old new same found = tt
+
+-- so is a refutation by the last root, under assumptions of which these failed
+pub refuted-reply : {T E : Type 0} (r : Result T E) (state before : State) (names : List ℕ) (kept : List ToldStep) (last : Option ℕ) (root : ℕ) (failed assumptions : List PartLiteral) (pairs : List (ℕ × ℤ)) (old new : List ℕ)
+    → before ≡ state → last ≡ Some root → assumptions ≡ assumptions_of pairs → NamesFailed assumptions failed
+    → OnOk r ((text : List ℕ) × ((given : List PartLiteral) → NamesFailed given failed → IsRefutationBy names kept (Some root) before given text) × (new ≡ old ++ text))
+    → OnOk r ((text : List ℕ) × IsSolveReplyBy names kept last state pairs text × (new ≡ old ++ text))
+refuted-reply (Ok x) state before names kept last root failed assumptions pairs old new same root_is are names_failed found =
+    let by_root : IsRefutationBy names kept (Some root) before assumptions found.0 = found.1 assumptions names_failed in
+    let by_last : IsRefutationBy names kept last before assumptions found.0 = subst (λ (l : Option ℕ). IsRefutationBy names kept l before assumptions found.0) (sym root_is) by_root in
+    let by_pairs : IsRefutationBy names kept last before (assumptions_of pairs) found.0 = subst (λ (xs : List PartLiteral). IsRefutationBy names kept last before xs found.0) are by_last in
+    (found.0, inr (subst (λ (s : State). IsRefutationBy names kept last s (assumptions_of pairs) found.0) same by_pairs), found.2)
+refuted-reply (Err x) state before names kept last root failed assumptions pairs old new same root_is are names_failed found = tt
+
+-- a refutation of the material is one of what was stored
+pub refuted-stored : (state : State) (settings now_settings : ScriptSettings) (names : List ℕ) (before kept : List ToldStep) (root : ℕ) (failed : List PartLiteral) (accepted now : List (Part × Clause)) (old new : List ℕ) → stored_state settings names accepted ≡ state → now ≡ accepted → now_settings ≡ settings → before ≡ kept
+    → (text : List ℕ) × ((given : List PartLiteral) → NamesFailed given failed → IsRefutationBy names before (Some root) (stored_state now_settings names now) given text) × (new ≡ old ++ text)
+    → (text : List ℕ) × ((given : List PartLiteral) → NamesFailed given failed → IsRefutationBy names kept (Some root) state given text) × (new ≡ old ++ text)
+refuted-stored state settings now_settings names before kept root failed accepted now old new e same many told found =
+    let is : stored_state now_settings names now ≡ state = ap (λ n. stored_state n names now) many ∙ ap (stored_state settings names) same ∙ e in (
+      found.0,
+      λ given names_failed. subst (λ (s : State). IsRefutationBy names kept (Some root) s given found.0) is
+          (subst (λ steps. IsRefutationBy names steps (Some root) (stored_state now_settings names now) given found.0) told (found.1 given names_failed)),
+      found.2,
+    )
+
+-- a verdict by the last root is a verdict
+pub solve-reply : {T E : Type 0} (r : Result T E) (names : List ℕ) (kept : List ToldStep) (last : Option ℕ) (state : State) (pairs : List (ℕ × ℤ)) (old new : List ℕ)
+    → OnOk r ((text : List ℕ) × IsSolveReplyBy names kept last state pairs text × (new ≡ old ++ text)) → OnOk r ((text : List ℕ) × IsSolveReply state pairs text × (new ≡ old ++ text))
+solve-reply (Ok x) names kept last state pairs old new found = (found.0, verdict_by names kept last state pairs found.0 found.1, found.2)
+solve-reply (Err x) names kept last state pairs old new found = tt
+
+-- ---- what is admitted
+
+-- the parts and variables of an admitted solve are tested
+pub solve-admitted : (parts : ℕ) (any : Bool) (pairs : List (ℕ × ℤ)) → admitted parts any (Solve pairs) ≡ Ok tt → (list_all (λ pair. nat_le pair.0 parts) pairs ≡ true) × (list_all (is_within variable_limit) (map (λ (pair : ℕ × ℤ). unsigned_abs pair.1) pairs) ≡ true)
+solve-admitted parts any pairs e = after_late (any && false) (list_all (λ pair. nat_le pair.0 parts) pairs) (list_all (is_within variable_limit) (map (λ (pair : ℕ × ℤ). unsigned_abs pair.1) pairs)) e
+  where
+    after_late : (late in_parts in_variables : Bool) → ◌≡◌ {A = Result (Unit {0}) Refusal} (if late then Err LateParts else if not in_parts then Err Range else if not in_variables then Err Variable else if not true then Err CutRange else Ok tt) (Ok tt) → (in_parts ≡ true) × (in_variables ≡ true)
+    after_late true in_parts in_variables e = absurd (cc)
+    after_late false false in_variables e = absurd (cc)
+    after_late false true false e = absurd (cc)
+    after_late false true true e = (refl, refl)

@@ -1,10 +1,10 @@
 -- What holds of each command that a line is read as.
-use Rattle.std.specs.Prelude.{◌≡◌, ◌≢◌, []}
+use Rattle.std.specs.Prelude.{◌≢◌, []}
 use Rattle.craig_script.specs.declared.command.Command.{Command}
 use Rattle.craig_script.specs.declared.command.Command.TheVariants.{Nothing, Parts, Add, System, Mark, Cuts, Solve}
 use Rattle.craig_script.specs.declared.cut_word.CutWord.TheVariants as cut
 
--- a solve has no assumptions, and where cuts are chosen there is one
+-- where cuts are chosen there is one
 abbrev pub IsAsRead : Command → Type 0
 IsAsRead Nothing = Unit {0}
 IsAsRead (Parts n) = Unit {0}
@@ -13,4 +13,4 @@ IsAsRead (System system) = Unit {0}
 IsAsRead (Mark name mark) = Unit {0}
 IsAsRead (Cuts cut.All) = Unit {0}
 IsAsRead (Cuts (cut.Chosen numbers)) = numbers ≢ []
-IsAsRead (Solve pairs) = pairs ≡ []
+IsAsRead (Solve pairs) = Unit {0}

@@ -1,5 +1,6 @@
 -- Which words a line of a script has that is a command.
 use Rattle.std.specs.Prelude.{ℕ, ◌≤◌, List, [], ◌∷◌, ◌++◌, Contains, codes, map, ℤ, pos, ◌≡◌, ◌≢◌, Ok}
+use Rattle.std.specs.List.{flat_map}
 use Rattle.std.specs.List.Sorted.{IsStrictlyIncreasing}
 use Rattle.std.specs.Fmt.{decimal, signed_decimal}
 use Rattle.std.specs.Int.RustNames.{unsigned_abs}
@@ -16,9 +17,13 @@ use Rattle.craig_top.specs.GivenState.{State, reading}
 abbrev pub add_words : ℕ → List ℤ → List (List ℕ)
 add_words part lits = codes "add" ∷ (decimal part ∷ (map signed_decimal lits ++ codes "0" ∷ []))
 
--- the words of a solve without assumptions
-abbrev pub solve_words : List (List ℕ)
-solve_words = codes "solve" ∷ (codes "0" ∷ [])
+-- the words of a solve under assumptions, each a part and a literal
+abbrev pub solve_words : List (ℕ × ℤ) → List (List ℕ)
+solve_words pairs = codes "solve" ∷ (flat_map (λ pair. decimal pair.0 ∷ (signed_decimal pair.1 ∷ [])) pairs ++ codes "0" ∷ [])
+
+-- each part is from 0 to so many, and each variable from 1 to 2147483647
+abbrev pub ArePairsInRange : ℕ → List (ℕ × ℤ) → Type 0
+ArePairsInRange parts pairs = (pair : ℕ × ℤ) → Contains pairs pair → (pair.0 ≤ parts) × (1 ≤ unsigned_abs pair.1) × (unsigned_abs pair.1 ≤ 2147483647)
 
 -- the part is from 0 to so many, and each variable is from 1 to 2147483647
 abbrev pub AreInRange : ℕ → ℕ → List ℤ → Type 0

@@ -1,12 +1,13 @@
 -- The sides of clauses with their parts.
-use Rattle.std.specs.Prelude.{◌≡◌, ℕ, ◌≤◌, ◌&&◌, ◌||◌, true, List, [], ◌∷◌, ◌++◌, Contains, map}
+use Rattle.std.specs.Prelude.{◌≡◌, ℕ, ◌≤◌, ◌&&◌, ◌||◌, true, List, [], ◌∷◌, ◌++◌, Contains, map, nat_eq, Option, Some, if◌then◌else◌}
 use Rattle.craig_spec.specs.Literal.{Clause}
 use Rattle.craig_spec.specs.Cut.{PartClause, is_on_side_a, is_on_side_b, side_a, side_b}
 use Rattle.craig_spec.specs.Occurs.{occurs, occurs_in_clause}
 use Rattle.craig_base.specs.declared.script_part.Part.{Part}
 use Rattle.craig_itp.specs.Interpolants.{Spans}
 use Rattle.craig_search.specs.Verdict.{Assumptions}
-use Rattle.craig_label.specs.Sides.{SidesView, IsSides, occurs_in_a, occurs_in_b}
+use Rattle.craig_base.specs.declared.variable.Var.{Var}
+use Rattle.craig_label.specs.Sides.{IsRange, IsSides, Range, SidesView, occurs_in_a, occurs_in_b, range_of}
 
 -- the dense clauses, each with the number of its part
 abbrev pub parted : List (Part × Clause) → List PartClause
@@ -41,3 +42,23 @@ pub record NotesClause (old : SidesView) (c : Clause) (part : ℕ) (new : SidesV
   pub in_a : (cut x : ℕ) → occurs_in_a new cut x ≡ (occurs_in_a old cut x || is_on_side_a cut part && occurs_in_clause x c)
   -- on side B come the variables of the clause, where its part is 0 or after the cut
   pub in_b : (cut x : ℕ) → occurs_in_b new cut x ≡ (occurs_in_b old cut x || is_on_side_b cut part && occurs_in_clause x c)
+
+-- sides of any clauses are now those of the clauses and of the units of the assumptions
+abbrev pub NotesAssumptions : Assumptions → (old new : SidesView) → Type 0
+NotesAssumptions assumptions old new = (clauses : List (Part × Clause)) → AreSidesOf (parted clauses) old → AreSidesOf (parted (with_assumed clauses assumptions)) new
+
+-- the range that the variable has when ranges are put back, the last one first: the first one of the variable, or else the one that it has
+abbrev pub range_put_back : List (Var × Option Range) → SidesView → ℕ → Option Range
+range_put_back [] sides x = range_of sides x
+range_put_back (b ∷ before) sides x = if nat_eq x b.0.0 then b.1 else range_put_back before sides x
+
+-- when the ranges are put back, the sides are as they were before
+pub record PutsBack (before : List (Var × Option Range)) (now past : SidesView) : Type 0 where
+  -- the number of parts is as it was
+  pub parts : now.parts ≡ past.parts
+  -- each variable has the range that it had
+  pub ranges : (x : ℕ) → range_put_back before now x ≡ range_of past x
+
+-- the ranges are of parts up to this one
+abbrev pub AreRanges : ℕ → List (Var × Option Range) → Type 0
+AreRanges parts before = (b : Var × Option Range) (r : Range) → Contains before b → b.1 ≡ Some r → IsRange parts r

@@ -60,6 +60,17 @@ pub record AreStoredTogether (names : List ℕ) (sides : SidesView) (accepted : 
   -- each variable that the solver knows has a name
   pub known : vars ≤ length names
 
+-- what is stored is as before, but that variables may be noted in more parts
+pub record IsSameButForRanges (old new : Stored) : Type 0 where
+  -- the names
+  pub names : new.names ≡ old.names
+  -- the number of parts
+  pub parts : new.sides.parts ≡ old.sides.parts
+  -- what the commands have set
+  pub choices : new.choices ≡ old.choices
+  -- and the solver
+  pub solver : new.solver ≡ old.solver
+
 -- what holds of what is stored, unless a call wanted memory in vain
 pub record IsKept (s : Stored) : Type 0 where
   -- the clauses, names, sides and known variables belong together

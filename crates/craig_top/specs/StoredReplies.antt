@@ -1,13 +1,12 @@
 -- Which replies are drawn from what a session stores.
-use Rattle.std.specs.Prelude.{◌≡◌, ℕ, ◌++◌, List, [], map, Some, false}
+use Rattle.std.specs.Prelude.{◌≡◌, ℕ, ℤ, ◌++◌, List, map, Some, false}
 use Rattle.craig_spec.specs.Cut.{PartLiteral}
 use Rattle.craig_spec.specs.FailedAssumptions.{NamesFailed}
 use Rattle.craig_spec.specs.Literal.{Literal, Clause}
 use Rattle.craig_base.specs.declared.script_part.Part.{Part}
 use Rattle.craig_script.specs.declared.line.Line.{Line}
 use Rattle.craig_script.specs.declared.command.Command.{Command}
-use Rattle.craig_solver.specs.declared.answer.Answer.{Answer}
-use Rattle.craig_solver.specs.Answer.{root_of_answer}
+use Rattle.craig_search.specs.Verdict.{Assumptions, units}
 use Rattle.craig_top.specs.declared.stored.Stored.{Stored}
 use Rattle.craig_top.specs.GivenState.{reading}
 use Rattle.craig_top.specs.LastRefutation.{IsRefutationBy, IsSolveReplyBy, IsByLastRoot, ReadingIsByLastRoot}
@@ -25,19 +24,20 @@ IsLineReplyStored before later line = ReadingIsByLastRoot (seen later false) (gi
 abbrev pub IsCommandReplyStored : (before later : Stored) → Command → List ℕ → Type 0
 IsCommandReplyStored before later command = IsByLastRoot (seen later false) (given_state before) command
 
--- so does the reply to a solve without assumptions
-abbrev pub IsSolveReplyStored : (before later : Stored) → List ℕ → Type 0
-IsSolveReplyStored before later = IsSolveReplyBy later.names later.solver.tracer.told.steps later.solver.root (given_state before) []
+-- so does the reply to a solve under assumptions
+abbrev pub IsSolveReplyStored : (before later : Stored) → List (ℕ × ℤ) → List ℕ → Type 0
+IsSolveReplyStored before later pairs = IsSolveReplyBy later.names later.solver.tracer.told.steps later.solver.root (given_state before) pairs
 
--- the reply gives a model of the clauses, or refutes them by the root of the answer
-abbrev pub IsAnswerReply : MaterialView → Answer → List ℕ → Type 0
-IsAnswerReply m answer = IsSolveReplyBy m.names m.told.steps (root_of_answer answer) (state_of m) []
+-- the reply refutes what was stored under any assumptions of which these failed, by the root
+abbrev pub IsRefutedStored : (before : Stored) → Assumptions → (root : ℕ) → List ℕ → Type 0
+IsRefutedStored before failed root text =
+    (assumptions : List PartLiteral) → NamesFailed assumptions (named_assumptions before.names failed) → IsRefutationBy before.names before.solver.tracer.told.steps (Some root) (given_state before) assumptions text
 
 -- the reply refutes the clauses under any assumptions of which these failed, by the root
 abbrev pub IsRootReply : MaterialView → (root : ℕ) → List ℕ → Type 0
 IsRootReply m root text = (assumptions : List PartLiteral) → NamesFailed assumptions (named_assumptions m.names m.failed) → IsRefutationBy m.names m.told.steps (Some root) (state_of m) assumptions text
 
--- the reply with a model of the clauses came behind what was there
-abbrev pub AppendsModel : List ℕ → List (Part × Clause) → (old new : List ℕ) → Type 0
-AppendsModel names clauses old new =
-    (literals : List Literal) × IsModelReply (map (named_clause names) (map (λ c. c.1) clauses)) literals × (new ≡ old ++ satisfiable_text literals)
+-- the reply with a model of the clauses and the assumptions came behind what was there
+abbrev pub AppendsModel : List ℕ → List (Part × Clause) → Assumptions → (old new : List ℕ) → Type 0
+AppendsModel names clauses assumptions old new =
+    (literals : List Literal) × IsModelReply (map (named_clause names) (map (λ c. c.1) clauses ++ units assumptions)) literals × (new ≡ old ++ satisfiable_text literals)

@@ -28,7 +28,7 @@ pub fn dense_clause(alloc: Global, names: &mut Names, literals: &[i64]) -> Resul
 }
 
 /// The literal over the dense variables of the names. A variable that has no name yet is added to them.
-fn dense_literal(names: &mut Names, literal: i64) -> Result<Lit, AllocError>
+pub fn dense_literal(names: &mut Names, literal: i64) -> Result<Lit, AllocError>
     requires low { 1 ≤ unsigned_abs literal }
     requires high { unsigned_abs literal ≤ variable_limit }
     ensures grows { NamesGrow names.old names.new }

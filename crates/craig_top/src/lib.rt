@@ -7,6 +7,7 @@
 //! cuts by Pudlák's system, which `craig_itp` draws from the kept refutation and `craig_aiger` writes as one circuit.
 #![tactic(auto)]
 
+mod assumptions;
 mod choices;
 mod clause;
 pub mod laws;

@@ -16,20 +16,19 @@ ghost use Rattle.craig_top.specs.Appended.{AppendsOnly, AppendsText};
 ghost use Rattle.craig_top.specs.CutLayout.{edge_outputs};
 ghost use Rattle.craig_top.specs.Material.{IsMaterial, view_of};
 ghost use Rattle.craig_top.specs.Stored.{labels};
-ghost use Rattle.craig_top.specs.Naming.{named_clause};
 ghost use Rattle.craig_top.specs.RestsOn.{RestsOn};
 ghost use Rattle.craig_top.specs.Sides.{with_assumed};
 ghost use Rattle.craig_top.specs.StoredReplies.{IsRootReply};
-ghost use Rattle.craig_top.specs.Values.{IsOver};
 ghost use Rattle.craig_top.specs.WrittenOutputs.{AreOutputsOf, AreWrittenOutputs, HasMarks, IsWrittenLayout};
 ghost use Rattle.craig_top.specs.WrittenSystems.{alone, by_strength};
 
+use crate::assumptions::named_literals;
 use crate::choices::written_cuts;
 use crate::material::Material;
 use crate::reply::{append_interpolants, append_unsatisfiable};
 use craig_aig::{Aig, Edge};
 use craig_aiger::{Family, Layout, OutName};
-use craig_base::{ClauseId, Lit, Names, Part, Var};
+use craig_base::{ClauseId, Names};
 use craig_itp::{Edges, outputs};
 use craig_label::Mark;
 use craig_proof::Needed;
@@ -61,24 +60,6 @@ pub fn append_refutation(
     let failed = named_literals(material.alloc, material.names, material.failed)?;
     append_unsatisfiable(out, &failed)?;
     append_interpolants(out, &circuit)
-}
-
-/// The literals of assumptions over script variables.
-fn named_literals(
-    alloc: Global,
-    names: &Names,
-    assumptions: &[(Part, Lit)],
-) -> Result<Vec<Lit>, AllocError>
-    requires { IsOver (length names.now) (map (λ a. a.1) assumptions.now) }
-    ensures { IfOk result (λ literals. literals.items ≡ named_clause names.now (map (λ a. a.1) assumptions.now)) }
-{
-    let mut literals = Vec::new(alloc);
-    for assumption in assumptions {
-        let literal = assumption.1;
-        let name = Var(names.name(literal.var()));
-        literals.push(Lit::new(name, literal.negated()))?;
-    }
-    Ok(literals)
 }
 
 /// The circuit of the interpolants of the written cuts by the written systems, an output for each.

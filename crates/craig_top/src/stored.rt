@@ -1,6 +1,6 @@
 //! What a session stores, and the reply to a line from it.
 
-ghost use Rattle.std.specs.Prelude.{◌≡◌, ◌≤◌, ℕ, [], ◌++◌, false, List, None, IsTrue, map, Ok, OnOk, OnErr, IfOk};
+ghost use Rattle.std.specs.Prelude.{◌≡◌, ◌≤◌, ℕ, [], ◌++◌, false, List, Some, None, IsTrue, All, length, map, nat_le, Ok, OnOk, OnErr, IfOk};
 ghost use Rattle.std.specs.List.{list_all};
 ghost use Rattle.std.specs.Int.RustNames.{unsigned_abs};
 ghost use Rattle.craig_script.specs.Reading.{IsParsedAs, is_within, part_limit, variable_limit};
@@ -9,21 +9,27 @@ ghost use Rattle.craig_top.specs.Appended.{AppendsOnly, AppendsText};
 ghost use Rattle.craig_top.specs.GivenState.{reading, next, obeyed, unmarked};
 ghost use Rattle.craig_top.specs.LastRefutation.{view_before_lines};
 ghost use Rattle.craig_top.specs.Reply.{Reply, RepliesTo};
-ghost use Rattle.craig_top.specs.Stored.{IsAdmitted, IsKept, given_state, seen};
-ghost use Rattle.craig_top.specs.StoredReplies.{IsLineReplyStored, IsCommandReplyStored, IsSolveReplyStored};
+ghost use Rattle.craig_top.specs.Stored.{IsAdmitted, IsKept, IsSameButForRanges, given_state, seen};
+ghost use Rattle.craig_spec.specs.Chain.{IsUnforgotten};
+ghost use Rattle.craig_top.specs.RestsOn.{IsEmptyAt, RestsOn};
+ghost use Rattle.craig_top.specs.Sides.{with_assumed};
+ghost use Rattle.craig_top.specs.StoredReplies.{IsLineReplyStored, IsCommandReplyStored, IsRefutedStored, IsSolveReplyStored};
+ghost use Rattle.craig_top.specs.Values.{IsOver};
 ghost use Rattle.craig_top.specs.AsRead.{IsAsRead};
 
+use crate::assumptions::{assumptions_at, dense_assumptions};
 use crate::choices::{Choices, chosen_cuts, mark_of};
 use crate::clause::dense_clause;
 use crate::material::Material;
+use crate::refutation::append_refutation;
 use crate::reply::{OK_SIZE, append_ok, append_refusal};
-use crate::sides::note_clause;
-use crate::verdict::append_verdict;
-use craig_base::{Names, Part};
+use crate::sides::{note_assumptions, note_clause, put_back};
+use crate::verdict::append_values;
+use craig_base::{ClauseId, Lit, Names, Part};
 use craig_label::Sides;
 use craig_proof::ChainStore;
 use craig_script::{Command, CutWord, Line, LineFault, SystemWord, admit, parse};
-use craig_solver::Solver;
+use craig_solver::{Answer, Solver};
 use std::alloc::{AllocError, Global};
 
 /// The names of the variables, the sides of the accepted clauses, and the solver that holds them.
@@ -106,7 +112,7 @@ impl Stored {
     {
         match command {
             Command::Nothing => Ok(()),
-            Command::Solve(_) => self.solve(out),
+            Command::Solve(pairs) => self.solve(pairs.as_slice(), out),
             change => {
                 out.reserve(OK_SIZE)?;
                 self.change(change)?;
@@ -185,26 +191,73 @@ impl Stored {
         Ok(())
     }
 
-    /// Solves the accepted clauses, and appends the reply.
-    fn solve(&mut self, out: &mut Vec<u8>) -> Result<(), AllocError>
-        requires { IsKept self.old }
+    /// Solves the accepted clauses under the assumptions that the pairs write, and appends the reply.
+    fn solve(&mut self, pairs: &[(u64, i64)], out: &mut Vec<u8>) -> Result<(), AllocError>
+        requires kept { IsKept self.old }
+        requires parts { IsTrue (list_all (λ pair. nat_le pair.0 self.old.sides.parts) pairs.now) }
+        requires variables { IsTrue (list_all (is_within variable_limit) (map (λ pair. unsigned_abs pair.1) pairs.now)) }
         ensures kept { OnOk result (IsKept self.new) }
-        ensures reply { OnOk result (AppendsText out.old.items out.new.items (IsSolveReplyStored self.old self.new)) }
+        ensures reply { OnOk result (AppendsText out.old.items out.new.items (IsSolveReplyStored self.old self.new pairs.now)) }
         ensures state { given_state self.new ≡ given_state self.old }
         ensures appends { AppendsOnly out.old.items out.new.items }
     {
+        // of 16 bits, and no part is above it
+        let _ = self.sides.parts();
+        let assumptions = dense_assumptions(self.alloc, &mut self.names, pairs)?;
         self.solver.reach(self.names.len())?;
-        let answer = self.solver.solve(&[], None)?;
+        let answer = self.solver.solve(&assumptions, None)?;
+        match &answer {
+            Answer::Model(values) => append_values(
+                self.alloc,
+                &self.names,
+                self.solver.accepted(),
+                &assumptions,
+                values,
+                out,
+            ),
+            Answer::Failed { root, places } => {
+                let failed = assumptions_at(self.alloc, &assumptions, places)?;
+                self.refute(&failed, *root, out)
+            }
+            // without a limit none is met
+            Answer::Limit(_) => unreachable!(),
+        }
+    }
+
+    /// Appends the reply that refutes the accepted clauses and the failed assumptions by the root of the last answer.
+    fn refute(
+        &mut self,
+        failed: &[(Part, Lit)],
+        root: ClauseId,
+        out: &mut Vec<u8>,
+    ) -> Result<(), AllocError>
+        requires kept { IsKept self.old }
+        requires alive { self.old.solver.dead ≡ false }
+        requires over { IsOver (length self.old.names) (map (λ a. a.1) failed.now) }
+        requires parts { All (λ a. a.0.0 ≤ self.old.sides.parts) failed.now }
+        requires root { IsUnforgotten self.old.solver.tracer.told.steps root.0 }
+        requires empty { IsEmptyAt self.old.solver.tracer.told.steps root.0 }
+        requires rests { RestsOn (with_assumed self.old.solver.accepted failed.now) self.old.solver.tracer.told root.0 }
+        ensures kept { OnOk result (IsKept self.new) }
+        ensures same { IsSameButForRanges self.old self.new }
+        ensures reply { OnOk result (AppendsText out.old.items out.new.items (IsRefutedStored self.old failed.now root.0)) }
+        ensures appends { AppendsOnly out.old.items out.new.items }
+    {
+        craig_proof::laws::steps_are_found();
+        // what holds of all names is known from here on
+        let _ = self.names.len();
+        let before = note_assumptions(self.alloc, &mut self.sides, failed)?;
         let material = Material {
             alloc: self.alloc,
             names: &self.names,
             clauses: self.solver.accepted(),
             choices: &self.choices,
-            failed: &[],
+            failed,
             sides: &self.sides,
             store: self.solver.tracer(),
         };
-        append_verdict(&material, &answer, out)?;
+        append_refutation(&material, root, out)?;
+        put_back(&mut self.sides, before)?;
         Ok(())
     }
 }

@@ -9,7 +9,7 @@ ghost use Rattle.craig_script.specs.declared.line.Line.TheVariants.{Overlong, Te
 ghost use Rattle.craig_script.specs.declared.refusal.Refusal.TheVariants as refusal;
 ghost use Rattle.craig_script.specs.Lines.{last_part, line_of, script_lines, whole_lines};
 ghost use Rattle.craig_script.specs.Words.{words};
-ghost use Rattle.craig_top.specs.CommandLines.{AreInRange, AreRisingCuts, EachAddLine, EachCutsLine, EachMarkLine, EachPartsLine, EachSolveLine, EachSystemLine, add_words, all_cuts_words, cuts_words, mark_words, parts_words, solve_words, system_words};
+ghost use Rattle.craig_top.specs.CommandLines.{AreInRange, ArePairsInRange, AreRisingCuts, EachAddLine, EachCutsLine, EachMarkLine, EachPartsLine, EachSolveLine, EachSystemLine, add_words, all_cuts_words, cuts_words, mark_words, parts_words, solve_words, system_words};
 ghost use Rattle.craig_top.specs.GivenState.{State, reading};
 
 /// The bytes of a script are its lines, each with a newline behind it, and what comes after the last newline, which is
@@ -25,7 +25,7 @@ pub fn lines_of_a_script()
 {}
 
 /// A line that is read as an addition has the word `add`, the decimal forms of its part and of its literals, and 0. One
-/// that is read as a solve has the words `solve` and 0. Those that set something have the word of what they set, and
+/// that is read as a solve has the word `solve`, the decimal forms of the part and the literal of each pair, and 0. Those that set something have the word of what they set, and
 /// what it is set to; a number of parts is from 1 to 4096, and none is given once a clause is accepted. No line of more
 /// than 1048576 bytes is read as a command.
 pub fn words_of_commands()
@@ -35,7 +35,7 @@ pub fn words_of_commands()
     ensures mark { EachMarkLine (λ bytes name m. (words bytes ≡ mark_words name m) × (1 ≤ name) × (name ≤ 2147483647)) }
     ensures all_cuts { (state : State) (bytes : List ℕ) → reading state (Text bytes) ≡ Ok (Cuts CutWord.All) → words bytes ≡ all_cuts_words }
     ensures cuts { EachCutsLine (λ state bytes cuts. (words bytes ≡ cuts_words cuts) × AreRisingCuts state.settings.parts cuts) }
-    ensures solve { EachSolveLine (λ state bytes pairs. (pairs ≡ []) × (words bytes ≡ solve_words)) }
+    ensures solve { EachSolveLine (λ state bytes pairs. (words bytes ≡ solve_words pairs) × ArePairsInRange state.settings.parts pairs) }
     ensures short { (state : State) (bytes : List ℕ) (c : Command) → reading state (Text bytes) ≡ Ok c → length bytes ≤ 1048576 }
     ensures overlong { (state : State) → reading state Overlong ≡ Err refusal.Overlong }
 {

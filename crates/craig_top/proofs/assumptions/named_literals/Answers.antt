@@ -5,7 +5,7 @@ use Rattle.craig_base.specs.declared.script_part.Part.{Part}
 use Rattle.craig_spec.proofs.MemberLemmas.{Contains-image}
 use Rattle.craig_top.proofs.NamingLemmas.{named_clause-more, named_literal-from}
 use Rattle.craig_top.proofs.OverLemmas.{IsOver-contains}
-use Rattle.craig_top.proofs.refutation.named_literals.Goals as goal
+use Rattle.craig_top.proofs.assumptions.named_literals.Goals as goal
 
 pub name-requires : goal.name-requires
 name-requires c =

@@ -2,7 +2,7 @@ use Rattle.std.proofs.Common.{◌≡◌, map, take}
 use Rattle.craig_spec.specs.Literal.{Literal}
 use Rattle.craig_base.specs.declared.script_part.Part.{Part}
 use Rattle.craig_top.specs.Naming.{named_clause}
-use Rattle.craig_top.proofs.refutation.named_literals.Given as goal
+use Rattle.craig_top.proofs.assumptions.named_literals.Given as goal
 
 -- the literals so far are named
 abbrev pub invariant-loop-assumption : goal.invariant-loop-assumption

@@ -1,5 +1,5 @@
 -- What is read as a command: chosen cuts are some.
-use Rattle.std.proofs.Common.{length, nat_le, ◌≡◌, List, ℕ, ℤ, pos, [], ◌∷◌, Bool, true, false, cond, Option, Result, Ok, Err, refl, subst}
+use Rattle.std.proofs.Common.{length, nat_le, ◌≡◌, List, ℕ, ℤ, pos, [], ◌∷◌, Bool, true, false, cond, Result, Ok, Err, subst}
 use Rattle.std.specs.Prelude.{codes}
 use Rattle.std.specs.Str.{bytes_eq}
 use Rattle.craig_script.specs.declared.line.Line.{Line}

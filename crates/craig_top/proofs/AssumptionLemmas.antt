@@ -1,5 +1,5 @@
 -- Assumptions over dense variables, and as they were written.
-use Rattle.std.proofs.Common.{◌≡◌, ◌≢◌, ◌∙◌, sym, ap, subst, refl, ℕ, zero, suc, ◌+◌, ◌<◌, ◌≤◌, Bool, true, false, ◌||◌, nat_le, List, [], ◌∷◌, ◌++◌, length, map, take, get_or, slice_get, All, Contains, Option, Some, None, ℤ, arith, leb-true, lt-ltb, inl, inr}
+use Rattle.std.proofs.Common.{◌≡◌, ◌≢◌, ◌∙◌, sym, ap, subst, refl, ℕ, zero, suc, ◌+◌, ◌<◌, ◌≤◌, Bool, true, false, ◌||◌, nat_le, List, [], ◌∷◌, ◌++◌, length, map, take, get_or, slice_get, All, Contains, Some, ℤ, arith, leb-true, lt-ltb, inl, inr}
 use Rattle.std.proofs.Math.Bool.{or-false}
 use Rattle.std.proofs.lemmas.Bool.{and_from, and_parts}
 use Rattle.std.proofs.lemmas.List.{map-append, take_more}
@@ -8,8 +8,7 @@ use Rattle.std.proofs.lemmas.List.Folds.{list_any-append}
 use Rattle.std.proofs.lemmas.Option.{get_or_from_slice_get, same_Some}
 use Rattle.std.specs.Int.RustNames.{unsigned_abs}
 use Rattle.std.specs.List.{list_all}
-use Rattle.std.specs.List.Sorted.{IsStrictlyIncreasing}
-use Rattle.craig_spec.specs.Cut.{PartLiteral}
+use Rattle.craig_spec.specs.Cut.{PartLiteral, with_units}
 use Rattle.craig_spec.specs.FailedAssumptions.{NamesFailed}
 use Rattle.craig_spec.specs.Literal.{Clause, Literal}
 use Rattle.craig_spec.specs.Occurs.{occurs, occurs_in_clause}
@@ -17,18 +16,17 @@ use Rattle.craig_base.specs.declared.script_part.Part.{Part}
 use Rattle.craig_script.specs.Reading.{is_within}
 use Rattle.craig_search.proofs.UnitLemmas.{at_places-push}
 use Rattle.craig_search.specs.Verdict.{AreFirstPlaces, Assumptions, at_places, units}
-use Rattle.craig_top.specs.GivenState.{ScriptSettings, given_clauses, script_literal}
+use Rattle.craig_top.specs.GivenState.{ScriptSettings, script_literal}
 use Rattle.craig_top.specs.Growth.{NamesGrow}
-use Rattle.craig_top.specs.Named.{AreDifferent}
-use Rattle.craig_top.specs.Naming.{named_assumptions, named_clause, named_literal}
-use Rattle.craig_top.specs.Reply.{assuming, assumptions_of}
+use Rattle.craig_top.specs.Named.{AreDifferent, bare_clauses}
+use Rattle.craig_top.specs.Naming.{named_assumptions, named_clause, named_literal, written}
+use Rattle.craig_top.specs.Reply.{assumptions_of}
 use Rattle.craig_top.specs.Stored.{stored_state}
 use Rattle.craig_top.specs.Values.{AreOver, IsOver}
 use Rattle.craig_spec.proofs.MemberLemmas.{Contains-cases, Contains-from_image, Contains-from_slice_get, Contains-image, slice_get-below, slice_get-from_map, slice_get-to_map, slice_get-within}
-use Rattle.craig_top.proofs.GrowthLemmas.{IsOver-push, named_clause-grows}
+use Rattle.craig_top.proofs.GrowthLemmas.{IsOver-push}
 use Rattle.craig_top.proofs.NamedChainLemmas.{same_from_named}
 use Rattle.craig_top.proofs.OverLemmas.{IsOver-contains, IsOver-each}
-use Rattle.craig_top.proofs.StoredLemmas.{given_clauses-stored}
 
 -- the literals of assumptions
 abbrev pub literals : Assumptions → Clause
@@ -134,50 +132,46 @@ parts-at_places names parts assumptions chosen pairs places is within same all k
 pub first_places-within : (assumptions : Assumptions) (places : List ℕ) → AreFirstPlaces assumptions places → All (λ p. p < length assumptions) places
 first_places-within assumptions places are k d within = let found = are.first k d within in slice_get-below assumptions (get_or places k d) found.0 found.1
 
--- the assumptions at first places are failed ones, as they were written
-module _ (names : List ℕ) (differ : AreDifferent names) (assumptions : Assumptions) (over : IsOver (length names) (literals assumptions)) where
-  failed_named : (places : List ℕ) → All (λ p. p < length assumptions) places → map (slice_get (named_assumptions names assumptions)) places ≡ map Some (named_assumptions names (at_places assumptions places))
-  failed_named [] within = refl
-  failed_named (p ∷ places) within =
+-- the assumptions at first places are failed ones, whatever different literals are written for different ones
+module _ (write : Part × Literal → PartLiteral) (assumptions : Assumptions) (apart : (a b : Part × Literal) → Contains assumptions a → Contains assumptions b → (write a).literal ≡ (write b).literal → a.1 ≡ b.1) where
+  failed_written : (places : List ℕ) → All (λ p. p < length assumptions) places → map (slice_get (map write assumptions)) places ≡ map Some (map write (at_places assumptions places))
+  failed_written [] within = refl
+  failed_written (p ∷ places) within =
       let found = slice_get-within assumptions p (within 0 0 (omega arith)) in
-      rw (at_places-cons assumptions p places found.0 found.1, slice_get-to_map (named_at names) assumptions p found.0 found.1)
-      (ap (λ xs. Some (named_at names found.0) ∷ xs) (failed_named places (λ i d inside. within (suc i) d (omega (arith, inside)))))
+      rw (at_places-cons assumptions p places found.0 found.1, slice_get-to_map write assumptions p found.0 found.1)
+      (ap (λ xs. Some (write found.0) ∷ xs) (failed_written places (λ i d inside. within (suc i) d (omega (arith, inside)))))
 
-  below_names : (p : ℕ) (a : Part × Literal) → slice_get assumptions p ≡ Some a → a.1.var < length names
-  below_names p a at = IsOver-contains (length names) (literals assumptions) a.1 over (Contains-image (λ (b : Part × Literal). b.1) assumptions a (Contains-from_slice_get assumptions p a at))
-
-  pub NamesFailed-named : (places : List ℕ) → AreFirstPlaces assumptions places → NamesFailed (named_assumptions names assumptions) (named_assumptions names (at_places assumptions places))
-  NamesFailed-named places are = record {
+  pub NamesFailed-written : (places : List ℕ) → AreFirstPlaces assumptions places → NamesFailed (map write assumptions) (map write (at_places assumptions places))
+  NamesFailed-written places are = record {
     places = places;
     rising = are.rising;
-    failed_are = failed_named places (first_places-within assumptions places are);
+    failed_are = failed_written places (first_places-within assumptions places are);
     first = λ p q a b is_place at before other same. (
-        let here = slice_get-from_map (named_at names) assumptions p a at in
-        let there = slice_get-from_map (named_at names) assumptions q b other in
+        let here = slice_get-from_map write assumptions p a at in
+        let there = slice_get-from_map write assumptions q b other in
         let chosen = All-contains (λ n. (c : Part × Literal) × (slice_get assumptions n ≡ Some c) × ((r : ℕ) (e : Part × Literal) → r < n → slice_get assumptions r ≡ Some e → e.1 ≢ c.1)) places p are.first is_place in
         let is : chosen.0 ≡ here.0 = same_Some chosen.0 here.0 (sym chosen.1 ∙ here.1) in
-        let literals_are : named_literal names there.0.1 ≡ named_literal names here.0.1 = ap (λ (l : PartLiteral). l.literal) there.2 ∙ same ∙ sym (ap (λ (l : PartLiteral). l.literal) here.2) in
-        chosen.2 q there.0 before there.1 (same_from_named names differ there.0.1 here.0.1 (below_names q there.0 there.1) (below_names p here.0 here.1) literals_are ∙ ap (λ (c : Part × Literal). c.1) (sym is)));
+        let literals_are : (write there.0).literal ≡ (write here.0).literal = ap (λ (l : PartLiteral). l.literal) there.2 ∙ same ∙ sym (ap (λ (l : PartLiteral). l.literal) here.2) in
+        chosen.2 q there.0 before there.1
+        (apart there.0 here.0 (Contains-from_slice_get assumptions q there.0 there.1) (Contains-from_slice_get assumptions p here.0 here.1) literals_are ∙ ap (λ (c : Part × Literal). c.1) (sym is)));
   }
 
--- the accepted clauses and the units of the assumptions, as they were written
-units-named : (names : List ℕ) (assumptions : Assumptions) (pairs : List (ℕ × ℤ)) → named_assumptions names assumptions ≡ assumptions_of pairs → map (named_clause names) (units assumptions) ≡ map (λ pair. script_literal pair.1 ∷ []) pairs
-units-named names assumptions pairs same = from_dense assumptions ∙ ap (map (λ (l : PartLiteral). l.literal ∷ [])) same ∙ to_pairs pairs
-  where
-    from_dense : (xs : Assumptions) → map (named_clause names) (units xs) ≡ map (λ (l : PartLiteral). l.literal ∷ []) (named_assumptions names xs)
-    from_dense [] = refl
-    from_dense (a ∷ xs) = ap (λ cs. (named_literal names a.1 ∷ []) ∷ cs) (from_dense xs)
+-- so are the named ones
+pub NamesFailed-named : (names : List ℕ) → AreDifferent names → (assumptions : Assumptions) → IsOver (length names) (literals assumptions) → (places : List ℕ) → AreFirstPlaces assumptions places
+    → NamesFailed (named_assumptions names assumptions) (named_assumptions names (at_places assumptions places))
+NamesFailed-named names differ assumptions over places are =
+    let below : (a : Part × Literal) → Contains assumptions a → a.1.var < length names = λ a here. IsOver-contains (length names) (literals assumptions) a.1 over (Contains-image (λ (b : Part × Literal). b.1) assumptions a here) in
+    NamesFailed-written (named_at names) assumptions (λ a b one other same. same_from_named names differ a.1 b.1 (below a one) (below b other) same) places are
 
-    to_pairs : (ps : List (ℕ × ℤ)) → map (λ (l : PartLiteral). l.literal ∷ []) (assumptions_of ps) ≡ map (λ pair. script_literal pair.1 ∷ []) ps
-    to_pairs [] = refl
-    to_pairs (p ∷ ps) = ap (λ cs. (script_literal p.1 ∷ []) ∷ cs) (to_pairs ps)
+-- the accepted clauses and the units of the assumptions, as they were written
+bare-named : (names : List ℕ) (accepted : List (Part × Clause)) (assumptions : Assumptions) → map (named_clause names) (map (λ a. a.1) accepted ++ units assumptions) ≡ bare_clauses (with_units (written names accepted) (named_assumptions names assumptions))
+bare-named names [] [] = refl
+bare-named names [] (a ∷ assumptions) = ap (λ cs. (named_literal names a.1 ∷ []) ∷ cs) (bare-named names [] assumptions)
+bare-named names (c ∷ accepted) assumptions = ap (λ cs. named_clause names c.1 ∷ cs) (bare-named names accepted assumptions)
 
 pub assuming-named : (settings : ScriptSettings) (names : List ℕ) (accepted : List (Part × Clause)) (assumptions : Assumptions) (pairs : List (ℕ × ℤ)) → named_assumptions names assumptions ≡ assumptions_of pairs
-    → map (named_clause names) (map (λ a. a.1) accepted ++ units assumptions) ≡ assuming (given_clauses (stored_state settings names accepted)) pairs
-assuming-named settings names accepted assumptions pairs same =
-    map-append (named_clause names) (map (λ a. a.1) accepted) (units assumptions)
-    ∙ ap (λ cs. map (named_clause names) (map (λ a. a.1) accepted) ++ cs) (units-named names assumptions pairs same)
-    ∙ ap (λ cs. cs ++ map (λ pair. script_literal pair.1 ∷ []) pairs) (sym (given_clauses-stored settings names accepted))
+    → map (named_clause names) (map (λ a. a.1) accepted ++ units assumptions) ≡ bare_clauses (with_units (stored_state settings names accepted).accepted (assumptions_of pairs))
+assuming-named settings names accepted assumptions pairs same = bare-named names accepted assumptions ∙ ap (λ ls. bare_clauses (with_units (written names accepted) ls)) same
 
 -- ---- the variables of assumptions
 

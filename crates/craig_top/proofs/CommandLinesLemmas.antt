@@ -1,5 +1,5 @@
 -- Which words a line has that is read as a command.
-use Rattle.std.proofs.Common.{◌≡◌, ◌≢◌, ◌∙◌, sym, ap, subst, refl, ℕ, zero, suc, ◌+◌, ◌<◌, ◌≤◌, Bool, true, false, not, ◌&&◌, ◌==◌, nat_le, cond, List, [], ◌∷◌, ◌++◌, length, map, Contains, Option, Some, None, option_map, slice_get, Result, Ok, Err, codes, drop, ℤ, pos, negsuc, neg_ℤ, leb-true, arith, inl, inr}
+use Rattle.std.proofs.Common.{◌≡◌, ◌∙◌, sym, ap, subst, refl, ℕ, zero, suc, ◌≤◌, Bool, true, false, not, ◌&&◌, ◌==◌, nat_le, cond, List, [], ◌∷◌, ◌++◌, length, map, Option, Some, None, option_map, Result, Ok, Err, codes, drop, ℤ, pos, neg_ℤ, leb-true}
 use Rattle.std.specs.Fmt.{decimal, signed_decimal}
 use Rattle.std.specs.Int.RustNames.{unsigned_abs}
 use Rattle.std.specs.List.{flat_map, list_all}
@@ -10,9 +10,7 @@ use Rattle.craig_script.specs.declared.command.Command.{Command}
 use Rattle.craig_script.specs.declared.command.Command.TheVariants.{Nothing, Parts, Add, System, Mark, Cuts, Solve}
 use Rattle.craig_script.specs.declared.cut_word.CutWord.TheVariants as cut
 use Rattle.craig_script.specs.declared.setting_words.MarkWord.{MarkWord}
-use Rattle.craig_script.specs.declared.setting_words.MarkWord.TheVariants as mark
 use Rattle.craig_script.specs.declared.setting_words.SystemWord.{SystemWord}
-use Rattle.craig_script.specs.declared.setting_words.SystemWord.TheVariants as system
 use Rattle.craig_script.specs.declared.line.Line.{Line}
 use Rattle.craig_script.specs.declared.line.Line.TheVariants as line
 use Rattle.craig_script.specs.declared.refusal.Refusal.{Refusal}
@@ -24,7 +22,6 @@ use Rattle.craig_script.specs.Words.{words}
 use Rattle.craig_spec.specs.Cut.{PartClause}
 use Rattle.craig_spec.proofs.MemberLemmas.{Contains-image, list_all-member}
 use Rattle.craig_script.proofs.NumbersLemmas.{option_map-some}
-use Rattle.craig_top.specs.AsRead.{IsAsRead}
 use Rattle.craig_top.specs.CommandLines.{AreInRange, ArePairsInRange, AreRisingCuts, add_words, all_cuts_words, cuts_words, mark_word, mark_words, parts_words, solve_words, system_word, system_words}
 use Rattle.craig_top.specs.GivenState.{State, any_clause, reading}
 use Rattle.craig_top.proofs.AsReadLemmas.{as_read}

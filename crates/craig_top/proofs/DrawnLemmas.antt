@@ -1,5 +1,5 @@
 -- The one refutation that the interpolants of all cuts are drawn from, over the variables of the script.
-use Rattle.std.proofs.Common.{◌≡◌, ◌∙◌, sym, ap, subst, refl, ℕ, ◌<◌, List, [], ◌∷◌, ◌++◌, length, map, ◌≤◌, slice_index, slice_get, Contains, Some}
+use Rattle.std.proofs.Common.{◌≡◌, ◌∙◌, sym, ap, subst, refl, ℕ, ◌<◌, List, [], ◌∷◌, ◌++◌, length, map, ◌≤◌, slice_index, Contains, Some}
 use Rattle.std.proofs.lemmas.List.Elements.{Contains-append_right}
 use Rattle.std.proofs.lemmas.Option.{same_Some}
 use Rattle.craig_spec.specs.Literal.{Clause}

@@ -1,5 +1,5 @@
 -- Which variables occur in clauses that are named anew, and the sides of a cut.
-use Rattle.std.proofs.Common.{◌≡◌, ℕ, ◌<◌, Bool, true, false, cond, List, [], ◌∷◌, length, map, refl, ap, sym, ◌∙◌, nat_eq, nat_le, nat_lt, slice_index, eq-eqb, ne_eqb, ltb-true, inl, inr, filter}
+use Rattle.std.proofs.Common.{◌≡◌, ℕ, ◌<◌, Bool, true, false, cond, List, [], ◌∷◌, length, map, refl, ap, sym, ◌∙◌, nat_eq, nat_lt, slice_index, eq-eqb, ne_eqb, ltb-true, inl, inr, filter}
 use Rattle.std.proofs.lemmas.Bool.{and_parts, cases_eq}
 use Rattle.craig_spec.specs.Literal.{Clause}
 use Rattle.craig_spec.specs.Occurs.{occurs_in_clause, occurs}

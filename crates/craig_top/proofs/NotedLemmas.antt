@@ -1,23 +1,21 @@
 -- The originals that a refutation rests on, and the sides of their clauses.
-use Rattle.std.proofs.Common.{◌≡◌, ◌∙◌, sym, subst, refl, ℕ, ◌-◌, ◌<◌, ◌≤◌, Bool, true, false, ◌&&◌, List, nat_eq, nat_le, nat_lt, le-leb, leb-true, lt-ltb, ltb-true, Contains, Option, Some, None, arith}
-use Rattle.std.proofs.lemmas.Bool.{and_from}
+use Rattle.std.proofs.Common.{◌≡◌, ◌∙◌, sym, subst, refl, ℕ, ◌<◌, ◌≤◌, Bool, true, false, List, nat_eq, Contains}
 use Rattle.craig_spec.specs.Literal.{Literal, Clause}
 use Rattle.craig_spec.specs.Occurs.{occurs, occurs_in_clause}
 use Rattle.craig_spec.specs.Chain.{Origin, Original, ToldStep, Told, SameLiterals}
 use Rattle.craig_spec.specs.Cut.{PartClause, is_on_side_a, side_a, side_b}
 use Rattle.craig_spec.specs.Needed.{IsNeeded, IsOriginal}
 use Rattle.craig_base.specs.declared.script_part.Part.{Part}
-use Rattle.craig_label.specs.Sides.{Range, SidesView, range_of, is_in_a, is_in_b, occurs_in_a, occurs_in_b, side_of, side_at}
+use Rattle.craig_label.specs.Sides.{SidesView, occurs_in_a, occurs_in_b, side_of, side_at}
 use Rattle.craig_label.specs.declared.side.Side.TheVariants.{Shared}
 use Rattle.craig_itp.specs.Interpolants.{Spans, NeededAreNoted, NeededHaveParts}
 use Rattle.craig_top.specs.Named.{bare_clauses}
 use Rattle.craig_top.specs.RestsOn.{RestsOn}
 use Rattle.craig_top.specs.Sides.{AreSidesOf, parted}
 use Rattle.craig_top.specs.Values.{AreOver}
-use Rattle.craig_spec.proofs.MemberLemmas.{Contains-image, list_any-member, list_any-more}
+use Rattle.craig_spec.proofs.MemberLemmas.{Contains-image, list_any-more}
 use Rattle.craig_top.proofs.NamingLemmas.{occurs-below}
 use Rattle.craig_top.proofs.OverLemmas.{AreOver-within}
-use Rattle.craig_top.proofs.SidesLemmas.{occurs-within}
 
 -- each original that the root needs is one of the clauses, with its part and its literals in any order
 abbrev pub AreOriginalsOf : List PartClause → List ToldStep → ℕ → Type 0

@@ -1,14 +1,12 @@
 -- Assumptions that are noted on the sides of clauses, and ranges that are put back.
-use Rattle.std.proofs.Common.{◌≡◌, ◌∙◌, sym, ap, subst, refl, ℕ, zero, suc, ◌+◌, ◌<◌, ◌≤◌, Bool, true, false, cond, nat_eq, List, [], ◌∷◌, ◌++◌, length, take, get_or, Contains, Option, Some, arith, inl, inr}
-use Rattle.std.proofs.lemmas.Bool.{cases_Bool, eqb-true}
-use Rattle.std.proofs.lemmas.List.{append-nil, map-append, take_more}
+use Rattle.std.proofs.Common.{◌≡◌, ◌∙◌, sym, ap, subst, refl, ℕ, ◌+◌, ◌<◌, ◌≤◌, Bool, true, false, cond, nat_eq, List, [], ◌∷◌, ◌++◌, length, take, get_or, Contains, Option, Some, arith, inl, inr}
+use Rattle.std.proofs.lemmas.Bool.{eqb-true}
+use Rattle.std.proofs.lemmas.List.{append-nil, take_more}
 use Rattle.std.proofs.lemmas.List.Elements.{Contains-append_cases, Contains-append_left, Contains-append_right}
 use Rattle.craig_spec.specs.Literal.{Clause, Literal}
 use Rattle.craig_spec.specs.Cut.{PartClause}
-use Rattle.craig_spec.specs.Occurs.{occurs_in_clause}
 use Rattle.craig_base.specs.declared.script_part.Part.{Part}
 use Rattle.craig_base.specs.declared.variable.Var.{Var}
-use Rattle.craig_itp.specs.Interpolants.{Spans}
 use Rattle.craig_label.specs.Sides.{HasRange, IsNoted, IsRange, IsSides, Range, SidesView, is_in_a, is_in_b, range_of, widened}
 use Rattle.craig_search.specs.Verdict.{Assumptions}
 use Rattle.craig_top.specs.Sides.{AreRanges, AreSidesOf, NotesAssumptions, PutsBack, parted, range_put_back, with_assumed}

@@ -1,10 +1,9 @@
 -- The reply where there is no model, from the refutation that a store keeps.
-use Rattle.std.proofs.Common.{◌≡◌, ◌∙◌, sym, ap, subst, refl, ℕ, zero, suc, ◌<◌, ◌≤◌, Bool, true, false, List, [], ◌∷◌, ◌++◌, append-nil, codes, length, map, nat_eq, slice_index, slice_get, All, Contains, Some, IsTrue, Result, Ok, Err, OnOk, le-leb, arith, inl, inr}
+use Rattle.std.proofs.Common.{◌≡◌, ◌∙◌, sym, ap, subst, refl, ℕ, zero, suc, ◌<◌, ◌≤◌, Bool, true, false, List, [], ◌∷◌, ◌++◌, append-nil, codes, length, map, nat_eq, slice_index, All, Some, IsTrue, Result, Ok, Err, OnOk, le-leb, arith, inl, inr}
 use Rattle.std.proofs.lemmas.Bool.{and_from, and_parts, cases_Bool, eqb-true, eqb-false}
 use Rattle.std.proofs.lemmas.List.Elements.{All-contains, All-head, All-tail}
 use Rattle.craig_spec.specs.Literal.{Clause, Literal}
 use Rattle.craig_spec.specs.Truth.{Assignment}
-use Rattle.craig_spec.specs.AigerReading.{read_aag}
 use Rattle.craig_spec.specs.Chain.{IsTold, Told, ToldStep, clause_told}
 use Rattle.craig_spec.specs.Circuit.{Circuit, IsStrict, circuit_value}
 use Rattle.craig_spec.specs.Cut.{AreChosenCuts, PartClause, PartLiteral, with_units}
@@ -13,7 +12,6 @@ use Rattle.craig_spec.specs.FailedAssumptions.{NamesFailed}
 use Rattle.craig_spec.specs.Needed.{IsNeededPart}
 use Rattle.craig_spec.specs.PartialInterpolant.{Label, partial_interpolant}
 use Rattle.craig_spec.specs.Sequence.{IsOutputAt, IsSequence}
-use Rattle.craig_spec.specs.Strength.{ImplyInTurn}
 use Rattle.craig_base.specs.declared.script_part.Part.{Part}
 use Rattle.craig_label.specs.Sides.{IsSides, SidesView}
 use Rattle.craig_aig.specs.declared.node.Node.{Node}
@@ -40,7 +38,7 @@ use Rattle.craig_top.specs.WrittenOutputs.{HasMarks}
 use Rattle.craig_top.specs.WrittenSystems.{label_of_mark, systems_of}
 use Rattle.craig_top.proofs.CircuitShapeLemmas.{constant_false}
 use Rattle.craig_top.proofs.DenseLemmas.{Agrees}
-use Rattle.craig_top.proofs.DrawnLemmas.{IsRefutingPart, IsRefutationOf-part, root_value, root_values}
+use Rattle.craig_top.proofs.DrawnLemmas.{IsRefutingPart, IsRefutationOf-part, root_value}
 use Rattle.craig_top.proofs.NamedRefutationLemmas.{IsRefutationOf-named, parted-named, literals-named, parted-bare, written-assumed}
 use Rattle.craig_top.proofs.NotedLemmas.{AreOriginalsOf, AreOriginalsOf-rests}
 use Rattle.craig_top.proofs.OutputLemmas.{AreReadOf, inputs-used, outputs-read}

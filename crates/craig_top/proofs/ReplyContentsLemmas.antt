@@ -3,8 +3,8 @@ use Rattle.std.proofs.Common.{◌≡◌, ◌∙◌, sym, ap, subst, refl, ◌⊎
 use Rattle.std.proofs.lemmas.List.{length-map, map-append}
 use Rattle.std.proofs.lemmas.List.Elements.{All-contains}
 use Rattle.craig_spec.specs.Circuit.{Circuit, Output}
-use Rattle.craig_spec.specs.Cut.{PartClause, PartLiteral}
-use Rattle.craig_spec.specs.Literal.{Literal}
+use Rattle.craig_spec.specs.Cut.{PartClause, PartLiteral, with_units}
+use Rattle.craig_spec.specs.Literal.{Clause, Literal}
 use Rattle.craig_spec.specs.PartialInterpolant.{Label}
 use Rattle.craig_spec.specs.Sequence.{IsSequence}
 use Rattle.craig_spec.proofs.MemberLemmas.{Contains-front, Contains-later, slice_get-from_map}
@@ -21,7 +21,9 @@ use Rattle.craig_script.specs.declared.setting_words.MarkWord.TheVariants as mar
 use Rattle.craig_script.specs.declared.setting_words.SystemWord.{SystemWord}
 use Rattle.craig_script.specs.declared.refusal.Refusal.{Refusal}
 use Rattle.craig_top.specs.Blocks.{Block, IsCircuitText, ascii_format, lined_bytes, printed_output}
-use Rattle.craig_top.specs.GivenState.{ScriptSettings, State, next, obeyed_if_admitted, reading}
+use Rattle.craig_top.specs.GivenState.{ScriptSettings, State, next, obeyed_if_admitted, reading, script_literal}
+use Rattle.craig_top.specs.ModelReply.{IsModelReply}
+use Rattle.craig_top.specs.Named.{bare_clauses}
 use Rattle.craig_top.specs.RefutationReply.{GivesInterpolants, IsRefutationReply, SystemLiterals, outputs_at, system_outputs}
 use Rattle.craig_top.specs.Reply.{Reply, RepliesToReading, assumptions_of}
 use Rattle.craig_top.specs.ReplyContents.{AreLiteralsOf, AreNamedBy, HasAccepted, HasCuts, HaveOutputs, IsDivided, IsMarkFor, IsTextOf, IsStrictText, PrintsModel, PrintsRefutation, with_mark, with_system}
@@ -122,6 +124,12 @@ text_of_block state assumptions text reply =
 
 -- ---- replies to lines
 
+-- the clauses and the units of the assumptions, without their parts
+bare-assumed : (accepted : List PartClause) (pairs : List (ℕ × ℤ)) → bare_clauses (with_units accepted (assumptions_of pairs)) ≡ map (λ (a : PartClause). a.clause) accepted ++ map (λ (pair : ℕ × ℤ). script_literal pair.1 ∷ []) pairs
+bare-assumed [] [] = refl
+bare-assumed [] (pair ∷ pairs) = ap (λ cs. (script_literal pair.1 ∷ []) ∷ cs) (bare-assumed [] pairs)
+bare-assumed (a ∷ accepted) pairs = ap (λ cs. a.clause ∷ cs) (bare-assumed accepted pairs)
+
 module _ (state : State) (line : Line) (text : List ℕ) where
   -- the reply is one to what the line reads as
   reply_to_reading : Reply state line text → (read : Result Command Refusal) → reading state line ≡ read → RepliesToReading state read text
@@ -148,7 +156,7 @@ module _ (state : State) (line : Line) (text : List ℕ) where
 
   pub reply_to_solve : Reply state line text → (pairs : List (ℕ × ℤ)) → reading state line ≡ Ok (Solve pairs) → PrintsModel state.accepted pairs text ⊎ IsRefutationReply state (assumptions_of pairs) text
   reply_to_solve reply pairs is = elim (reply_to_reading reply (Ok (Solve pairs)) is) [
-    | inl model ↦ inl (model.0, model.2, model.1)
+    | inl model ↦ inl (model.0, model.2, subst (λ (cs : List Clause). IsModelReply cs model.0) (bare-assumed state.accepted pairs) model.1)
     | inr refutation ↦ inr refutation
   ]
 

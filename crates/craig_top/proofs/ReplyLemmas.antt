@@ -1,18 +1,9 @@
 -- The texts of replies, appended piece by piece.
-use Rattle.std.proofs.Common.{◌≡◌, ◌∙◌, ap, refl, ℕ, List, [], ◌++◌, append_assoc, append-nil, map, length, codes, decimal, Option, Result, Ok, Err, OnOk, inl, inr}
+use Rattle.std.proofs.Common.{◌≡◌, ◌∙◌, ap, ℕ, List, ◌++◌, append_assoc, length, codes, decimal, Result, Ok, Err, OnOk}
 use Rattle.craig_spec.specs.Literal.{Literal, Clause}
-use Rattle.craig_spec.specs.Chain.{ToldStep}
-use Rattle.craig_spec.specs.Cut.{PartLiteral}
-use Rattle.craig_spec.specs.FailedAssumptions.{NamesFailed}
-use Rattle.craig_base.specs.declared.script_part.Part.{Part}
 use Rattle.craig_top.specs.Blocks.{lined_bytes}
-use Rattle.craig_top.specs.GivenState.{ScriptSettings, State, given_clauses}
-use Rattle.craig_top.specs.LastRefutation.{IsRefutationBy, IsSolveReplyBy}
 use Rattle.craig_top.specs.ModelReply.{IsModelReply}
-use Rattle.craig_top.specs.Naming.{named_clause}
 use Rattle.craig_top.specs.ReplyTexts.{satisfiable_text}
-use Rattle.craig_top.specs.Stored.{stored_state}
-use Rattle.craig_top.proofs.StoredLemmas.{given_clauses-stored}
 
 -- a text in two pieces
 pub appended-two : {T E : Type 0} (r : Result T E) (one two begun first last : List ℕ) → first ≡ begun ++ one → OnOk r (last ≡ first ++ two) → OnOk r (last ≡ begun ++ (one ++ two))

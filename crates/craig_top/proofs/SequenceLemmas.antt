@@ -1,5 +1,5 @@
 -- The interpolants of the cuts of one refutation by one system, as literals of a circuit over the variables of the script.
-use Rattle.std.proofs.Common.{◌≡◌, ◌∙◌, refl, sym, ap, subst, ℕ, ◌+◌, ◌<◌, ◌≤◌, Bool, true, false, not, cond, List, [], length, map, nat_eq, slice_index, slice_get, Contains, Some, IsTrue, arith, inl, inr}
+use Rattle.std.proofs.Common.{◌≡◌, ◌∙◌, refl, sym, ap, subst, ℕ, ◌<◌, ◌≤◌, Bool, true, false, not, cond, List, [], length, map, nat_eq, slice_index, slice_get, Contains, Some, IsTrue, arith, inl, inr}
 use Rattle.std.proofs.lemmas.Bool.{cases_Bool, eqb-true, eqb-false}
 use Rattle.std.proofs.lemmas.List.Elements.{All-contains}
 use Rattle.craig_spec.specs.Truth.{Assignment, IsModel}
@@ -14,7 +14,7 @@ use Rattle.craig_aig.specs.Cones.{cone}
 use Rattle.craig_aig.specs.Edges.{Edge}
 use Rattle.craig_aig.specs.declared.node.Node.{Node}
 use Rattle.craig_aiger.specs.Layouts.{dense_assignment}
-use Rattle.craig_itp.specs.Interpolants.{AreInterpolants, IsOutput}
+use Rattle.craig_itp.specs.Interpolants.{AreInterpolants}
 use Rattle.craig_itp.specs.Labellings.{PartsHold, cut_value, output_value}
 use Rattle.craig_top.specs.Named.{bare_clauses, named_part_clause}
 use Rattle.craig_top.specs.Sides.{AreSidesOf}

@@ -11,7 +11,7 @@ use Rattle.craig_script.specs.declared.command.Command.{Command}
 use Rattle.craig_script.specs.declared.line.Line.{Line}
 use Rattle.craig_script.specs.declared.refusal.Refusal.{Refusal}
 use Rattle.craig_script.specs.Reading.{admitted, parsed, read_line}
-use Rattle.craig_top.specs.GivenState.{ScriptSettings, any_clause, script_literal, given_clauses}
+use Rattle.craig_top.specs.GivenState.{ScriptSettings, any_clause, script_literal}
 use Rattle.craig_top.specs.Growth.{NamesGrow}
 use Rattle.craig_top.specs.Values.{IsOver}
 use Rattle.craig_top.specs.Naming.{named_clause, written}
@@ -42,11 +42,6 @@ stored_state-push settings now_settings old new accepted pushed part c zs many g
 pub stored_state-grown : (settings now_settings : ScriptSettings) (old new : List ℕ) (accepted now : List (Part × Clause)) → now_settings ≡ settings → NamesGrow old new → HaveNames old accepted → now ≡ accepted
     → stored_state now_settings new now ≡ stored_state settings old accepted
 stored_state-grown settings now_settings old new accepted now many g stored e = rw (many, e, written-grows old new accepted g stored) refl
-
--- the accepted clauses of the state are the dense ones under their names
-pub given_clauses-stored : (settings : ScriptSettings) (names : List ℕ) (accepted : List (Part × Clause)) → given_clauses (stored_state settings names accepted) ≡ map (named_clause names) (map (λ a. a.1) accepted)
-given_clauses-stored settings names [] = refl
-given_clauses-stored settings names (a ∷ others) = ap (λ cs. named_clause names a.1 ∷ cs) (given_clauses-stored settings names others)
 
 -- a session with one clause more
 pub AreStoredTogether-added : (old new : List ℕ) (before after : SidesView) (accepted pushed : List (Part × Clause)) (part : Part) (c : Clause) (vars known : ℕ) → AreStoredTogether old before accepted vars → NamesGrow old new → IsOver (length new) c

@@ -1,10 +1,10 @@
 -- The three systems that are written side by side, by falling strength.
-use Rattle.std.proofs.Common.{◌≡◌, ◌∙◌, sym, ap, refl, ℕ, ◌≤◌, List, [], ◌∷◌, length, map, slice_get, All, Contains, Some, arith}
+use Rattle.std.proofs.Common.{◌≡◌, ◌∙◌, sym, ap, refl, ℕ, List, [], ◌∷◌, length, map, slice_get, All, Some, arith}
 use Rattle.std.proofs.lemmas.List.Elements.{All-head, All-tail}
 use Rattle.std.proofs.lemmas.Option.{same_Some}
 use Rattle.craig_spec.specs.Circuit.{Circuit}
 use Rattle.craig_spec.specs.Cut.{PartClause}
-use Rattle.craig_spec.specs.PartialInterpolant.{Label, A, AB, B, rank}
+use Rattle.craig_spec.specs.PartialInterpolant.{rank}
 use Rattle.craig_spec.specs.Sequence.{IsSequence}
 use Rattle.craig_spec.proofs.MemberLemmas.{Contains-front, Contains-later}
 use Rattle.craig_script.specs.declared.setting_words.SystemWord.TheVariants as word

@@ -1,5 +1,5 @@
 -- Clauses under a list of values, and clauses over so many variables.
-use Rattle.std.proofs.Common.{get_or, sym, subst, ◌∙◌, length, ℕ, zero, suc, ◌<◌, ◌≡◌, List, [], ◌∷◌, ◌++◌, All, arith, refl, ap, Bool, true, false, ◌||◌, map, append-nil}
+use Rattle.std.proofs.Common.{get_or, sym, subst, ◌∙◌, length, ℕ, zero, suc, ◌<◌, ◌≡◌, List, [], ◌∷◌, All, arith, refl, ap, Bool, true, false, ◌||◌, map}
 use Rattle.std.proofs.lemmas.Bool.{and_parts, ltb-true}
 use Rattle.std.specs.List.{list_any, list_all}
 use Rattle.craig_spec.specs.Literal.{Clause}

@@ -7,7 +7,7 @@ use Rattle.std.specs.List.{list_all}
 use Rattle.std.proofs.lemmas.List.Elements.{Contains-append_left, Contains-append_right, Contains-get_or}
 use Rattle.craig_spec.specs.Literal.{Clause, Literal, negation}
 use Rattle.craig_spec.specs.Chain.{IsTold, SameLiterals, Told, ToldStep, clause_told}
-use Rattle.craig_spec.specs.Cut.{PartLiteral}
+use Rattle.craig_spec.specs.Cut.{PartLiteral, with_units}
 use Rattle.craig_spec.specs.Truth.{IsModel}
 use Rattle.craig_base.specs.Values.{assignment_of_values}
 use Rattle.craig_spec.specs.FailedAssumptions.{NamesFailed}
@@ -25,11 +25,11 @@ use Rattle.craig_solver.specs.Answer.{IsAnswer, accepted_clauses}
 use Rattle.craig_solver.specs.Told.{IsAcceptedStep, IsRefutation, TellsAnswer}
 use Rattle.craig_script.specs.declared.refusal.Refusal.TheVariants.{CutRange, LateParts, Range, Variable}
 use Rattle.craig_script.specs.Reading.{admitted, is_within, variable_limit}
-use Rattle.craig_top.specs.GivenState.{ScriptSettings, State, given_clauses}
+use Rattle.craig_top.specs.GivenState.{ScriptSettings, State}
 use Rattle.craig_top.specs.LastRefutation.{SessionView, IsByLastRoot, IsRefutationBy, IsSolveReplyBy, ReadingIsByLastRoot}
-use Rattle.craig_top.specs.Naming.{named_assumptions}
 use Rattle.craig_top.specs.ModelReply.{IsModelReply}
-use Rattle.craig_top.specs.Reply.{IsSolveReply, RepliesTo, assuming, assumptions_of}
+use Rattle.craig_top.specs.Named.{bare_clauses}
+use Rattle.craig_top.specs.Reply.{IsSolveReply, RepliesTo, assumptions_of}
 use Rattle.craig_top.specs.RestsOn.{IsEmptyAt, RestsOn}
 use Rattle.craig_top.specs.Sides.{with_assumed}
 use Rattle.craig_top.specs.ReplyTexts.{ok_text, satisfiable_text}
@@ -143,7 +143,7 @@ empty-told found t root told step = sym (ap (clause_told t.steps) step.2) ∙ fo
 -- ---- replies
 
 -- a model is a verdict, whichever root is the last
-pub model-reply : {T E : Type 0} (r : Result T E) (state : State) (names : List ℕ) (kept : List ToldStep) (last : Option ℕ) (clauses : List Clause) (pairs : List (ℕ × ℤ)) (old new : List ℕ) → clauses ≡ assuming (given_clauses state) pairs
+pub model-reply : {T E : Type 0} (r : Result T E) (state : State) (names : List ℕ) (kept : List ToldStep) (last : Option ℕ) (clauses : List Clause) (pairs : List (ℕ × ℤ)) (old new : List ℕ) → clauses ≡ bare_clauses (with_units state.accepted (assumptions_of pairs))
     → OnOk r ((literals : List Literal) × IsModelReply clauses literals × (new ≡ old ++ satisfiable_text literals))
     → OnOk r ((text : List ℕ) × IsSolveReplyBy names kept last state pairs text × (new ≡ old ++ text))
 model-reply (Ok x) state names kept last clauses pairs old new same found =

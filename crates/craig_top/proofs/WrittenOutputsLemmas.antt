@@ -1,11 +1,11 @@
 -- The outputs of the written systems in an arena that grows from system to system.
-use Rattle.std.proofs.Common.{◌≡◌, ◌∙◌, sym, ap, subst, refl, ℕ, ◌+◌, ◌<◌, ◌≤◌, Bool, true, false, List, [], ◌∷◌, ◌++◌, append-nil, append_assoc, length, map, nat_eq, slice_index, slice_get, All, Contains, Option, None, Some, Result, Ok, Err, IfOk, OnOk, arith, inl, inr}
+use Rattle.std.proofs.Common.{◌≡◌, ◌∙◌, sym, ap, subst, refl, ℕ, ◌<◌, ◌≤◌, Bool, true, false, List, [], ◌∷◌, ◌++◌, append-nil, append_assoc, length, nat_eq, slice_index, All, Contains, Option, None, Result, Ok, Err, IfOk, arith, inl, inr}
 use Rattle.std.proofs.lemmas.Bool.{cases_Bool, eqb-true, eqb-false}
 use Rattle.std.proofs.lemmas.List.Elements.{All-append, All-cons, All-contains, All-head, All-nil, All-tail}
 use Rattle.std.specs.declared.vec.Vec.{Vec}
 use Rattle.craig_spec.specs.Chain.{ToldStep}
 use Rattle.craig_spec.specs.Cut.{AreChosenCuts}
-use Rattle.craig_spec.specs.PartialInterpolant.{Label, A, AB, B}
+use Rattle.craig_spec.specs.PartialInterpolant.{Label}
 use Rattle.craig_label.specs.Sides.{SidesView, side_at}
 use Rattle.craig_label.specs.declared.side.Side.TheVariants.{Shared}
 use Rattle.craig_aig.specs.Arenas.{IsAig}

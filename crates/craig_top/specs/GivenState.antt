@@ -1,7 +1,7 @@
 -- What the accepted lines of a script have said so far.
 use Rattle.std.specs.Prelude.{ℕ, ◌+◌, Bool, true, false, List, [], ◌∷◌, ◌++◌, map, Result, Ok, Err, ℤ, pos, negsuc}
 use Rattle.std.specs.Int.RustNames.{unsigned_abs}
-use Rattle.craig_spec.specs.Literal.{Literal, Clause}
+use Rattle.craig_spec.specs.Literal.{Literal}
 use Rattle.craig_spec.specs.Cut.{PartClause, all_cuts}
 use Rattle.craig_spec.specs.PartialInterpolant.{Label, A, AB, B}
 use Rattle.craig_script.specs.declared.cut_word.CutWord.{CutWord}
@@ -46,10 +46,6 @@ start settings = record { settings = unmarked 2 settings.system; accepted = [] }
 abbrev pub script_literal : ℤ → Literal
 script_literal (pos n) = record { var = n; negated = false }
 script_literal (negsuc n) = record { var = n + 1; negated = true }
-
--- the accepted clauses without their parts
-abbrev pub given_clauses : State → List Clause
-given_clauses state = map (λ (a : PartClause). a.clause) state.accepted
 
 -- whether a clause is accepted
 abbrev pub any_clause : List PartClause → Bool

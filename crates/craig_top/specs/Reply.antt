@@ -1,27 +1,24 @@
 -- Which texts are allowed as the reply to a line.
-use Rattle.std.specs.Prelude.{◌≡◌, ℕ, List, [], ◌∷◌, ◌++◌, map, Result, Ok, Err, ℤ, ◌⊎◌}
-use Rattle.craig_spec.specs.Literal.{Literal, Clause}
-use Rattle.craig_spec.specs.Cut.{PartLiteral}
+use Rattle.std.specs.Prelude.{◌≡◌, ℕ, List, [], map, Result, Ok, Err, ℤ, ◌⊎◌}
+use Rattle.craig_spec.specs.Literal.{Literal}
+use Rattle.craig_spec.specs.Cut.{PartLiteral, with_units}
 use Rattle.craig_script.specs.declared.line.Line.{Line}
 use Rattle.craig_script.specs.declared.command.Command.{Command}
 use Rattle.craig_script.specs.declared.command.Command.TheVariants.{Nothing, Parts, Add, System, Mark, Cuts, Solve}
 use Rattle.craig_script.specs.declared.refusal.Refusal.{Refusal}
-use Rattle.craig_top.specs.GivenState.{State, given_clauses, script_literal, reading}
+use Rattle.craig_top.specs.GivenState.{State, script_literal, reading}
 use Rattle.craig_top.specs.ModelReply.{IsModelReply}
+use Rattle.craig_top.specs.Named.{bare_clauses}
 use Rattle.craig_top.specs.RefutationReply.{IsRefutationReply}
 use Rattle.craig_top.specs.ReplyTexts.{satisfiable_text, refusal_text, ok_text}
-
--- the clauses and the unit clauses of the assumptions
-abbrev pub assuming : List Clause → List (ℕ × ℤ) → List Clause
-assuming clauses pairs = clauses ++ map (λ pair. script_literal pair.1 ∷ []) pairs
 
 -- the assumptions that the pairs of a solve write
 abbrev pub assumptions_of : List (ℕ × ℤ) → List PartLiteral
 assumptions_of pairs = map (λ pair. record { part = pair.0; literal = script_literal pair.1 }) pairs
 
--- the text gives a model of the clauses and the assumptions
+-- the text gives a model of the accepted clauses and of the units of the assumptions
 abbrev pub GivesModel : State → List (ℕ × ℤ) → List ℕ → Type 0
-GivesModel state pairs text = (literals : List Literal) × IsModelReply (assuming (given_clauses state) pairs) literals × (text ≡ satisfiable_text literals)
+GivesModel state pairs text = (literals : List Literal) × IsModelReply (bare_clauses (with_units state.accepted (assumptions_of pairs))) literals × (text ≡ satisfiable_text literals)
 
 -- the text gives a model, or refutes the clauses and the assumptions
 abbrev pub IsSolveReply : State → List (ℕ × ℤ) → List ℕ → Type 0

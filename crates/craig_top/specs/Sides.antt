@@ -1,7 +1,7 @@
 -- The sides of clauses with their parts.
 use Rattle.std.specs.Prelude.{◌≡◌, ℕ, ◌≤◌, ◌&&◌, ◌||◌, true, List, [], ◌∷◌, ◌++◌, Contains, map, nat_eq, Option, Some, if◌then◌else◌}
 use Rattle.craig_spec.specs.Literal.{Clause}
-use Rattle.craig_spec.specs.Cut.{PartClause, is_on_side_a, is_on_side_b, side_a, side_b}
+use Rattle.craig_spec.specs.Cut.{PartClause, PartLiteral, is_on_side_a, is_on_side_b, side_a, side_b}
 use Rattle.craig_spec.specs.Occurs.{occurs, occurs_in_clause}
 use Rattle.craig_base.specs.declared.script_part.Part.{Part}
 use Rattle.craig_itp.specs.Interpolants.{Spans}
@@ -12,6 +12,10 @@ use Rattle.craig_label.specs.Sides.{IsRange, IsSides, Range, SidesView, occurs_i
 -- the dense clauses, each with the number of its part
 abbrev pub parted : List (Part × Clause) → List PartClause
 parted accepted = map (λ a. record { part = a.0.0; clause = a.1 }) accepted
+
+-- the dense assumptions, each with the number of its part
+abbrev pub parted_literals : Assumptions → List PartLiteral
+parted_literals assumptions = map (λ a. record { part = a.0.0; literal = a.1 }) assumptions
 
 -- the clauses, and then the unit clause of each assumption with its part
 abbrev pub with_assumed : List (Part × Clause) → Assumptions → List (Part × Clause)

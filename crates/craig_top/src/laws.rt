@@ -10,6 +10,7 @@ mod models;
 mod refutations;
 mod replies;
 mod runs;
+mod solver_words;
 
 pub use circuits::{literals_of_a_circuit, strict_circuits};
 pub use cuts::{failed_assumptions, interpolants_at_cuts, nothing_left};
@@ -25,3 +26,4 @@ pub use replies::{
     three_systems_by_strength,
 };
 pub use runs::{bytes_taken, replies_of_a_transcript, replies_put, runs_end_done};
+pub use solver_words::words_of_the_solver;

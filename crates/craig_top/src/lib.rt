@@ -3,8 +3,9 @@
 //! `craig_top` reads the words and calls `run_script`, which takes bytes from a source, cuts them into lines, and
 //! puts the reply of a `Session` to each line to a sink. The contract of `craig_top` is the transcript theorem: what
 //! was put is made of allowed replies, one for each line, and each way in which a run can end says which lines these
-//! are. A `solve` is answered by the incremental solver of `craig_solver`: with a model, or with the interpolants of all
-//! cuts by Pudlák's system, which `craig_itp` draws from the kept refutation and `craig_aiger` writes as one circuit.
+//! are. A `solve` is answered by the incremental solver of `craig_solver`: with a model, or with failed assumptions and
+//! the interpolants of the chosen cuts by the systems that are set, which `craig_itp` draws from the kept refutation and
+//! `craig_aiger` writes as one circuit.
 #![tactic(auto)]
 
 mod assumptions;

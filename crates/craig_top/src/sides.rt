@@ -1,4 +1,4 @@
-//! The sides of the accepted clauses.
+//! The sides of the accepted clauses, and of failed assumptions for as long as a reply is written.
 
 ghost use Rattle.std.specs.Prelude.{◌≡◌, ◌≤◌, [], All, IfOk, OnOk};
 ghost use Rattle.craig_label.specs.Sides.{IsSides, SidesView};

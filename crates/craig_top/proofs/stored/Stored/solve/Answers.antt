@@ -8,10 +8,11 @@ use Rattle.craig_search.specs.Verdict.{AreFirstPlaces, Assumptions, at_places, u
 use Rattle.craig_solver.specs.Answer.{root_of_answer}
 use Rattle.craig_solver.specs.Solver.{SolverView}
 use Rattle.craig_solver.specs.Told.{IsRefutation}
-use Rattle.craig_top.specs.GivenState.{given_clauses}
+use Rattle.craig_spec.specs.Cut.{with_units}
+use Rattle.craig_top.specs.Named.{bare_clauses}
 use Rattle.craig_top.specs.LastRefutation.{IsSolveReplyBy}
 use Rattle.craig_top.specs.Naming.{named_assumptions, named_clause}
-use Rattle.craig_top.specs.Reply.{assuming, assumptions_of}
+use Rattle.craig_top.specs.Reply.{assumptions_of}
 use Rattle.craig_top.specs.RestsOn.{RestsOn}
 use Rattle.craig_top.specs.Sides.{with_assumed}
 use Rattle.craig_top.specs.Stored.{HaveNames, given_state, settings_of, stored_state}
@@ -119,8 +120,8 @@ returns-in-Model-clause-reply c =
     let same = c.accepted.ensures.value ∙ c.in_ok-answer.ensures.accepted ∙ c.in_ok-reach.ensures.accepted in
     let state : stored_state settings names c.accepted.result.now ≡ given_state c.args.self.now =
     stored_state-grown settings settings c.args.self.now.names names c.args.self.now.solver.accepted c.accepted.result.now refl c.in_ok-assumptions.ensures.grows c.requires.kept.together.stored same in
-    let are : clauses ≡ assuming (given_clauses (given_state c.args.self.now)) c.args.pairs.now =
-    assuming-named settings names c.accepted.result.now c.deref-in-Model.result.now c.args.pairs.now (ap (named_assumptions names) c.deref-in-Model.ensures.value ∙ c.in_ok-assumptions.ensures.assumptions) ∙ ap (λ s. assuming (given_clauses s) c.args.pairs.now) state in
+    let are : clauses ≡ bare_clauses (with_units (given_state c.args.self.now).accepted (assumptions_of c.args.pairs.now)) =
+    assuming-named settings names c.accepted.result.now c.deref-in-Model.result.now c.args.pairs.now (ap (named_assumptions names) c.deref-in-Model.ensures.value ∙ c.in_ok-assumptions.ensures.assumptions) ∙ ap (λ s. bare_clauses (with_units s.accepted (assumptions_of c.args.pairs.now))) state in
     model-reply c.append_values.result (given_state c.args.self.now) names c.solve.new.self.tracer.told.steps c.solve.new.self.root clauses c.args.pairs.now _ _ are c.append_values.ensures.model
 
 pub returns-in-Failed-clause-reply : goal.returns-in-Failed-clause-reply

@@ -12,8 +12,8 @@ const LATE: u64 = 32;
 /// How many conflicts count as of long.
 const LONG: u64 = 100000;
 
-/// The least number of conflicts from one restart to the next.
-const APART: u64 = 2;
+/// The least number of conflicts before the first restart, and by how many more each later one is further apart.
+const APART: u64 = 250;
 
 /// How many conflicts come before the first reduction, and by how many more each later one takes longer.
 const STEP: u64 = 300;
@@ -27,6 +27,8 @@ pub struct Pace {
     long: Average,
     // conflicts since the last restart
     unrestarted: u64,
+    // the least number of conflicts from the last restart to the next
+    apart: u64,
     // conflicts since the last reduction
     unreduced: u64,
     // conflicts from the last reduction to the next
@@ -40,6 +42,7 @@ impl Pace {
             late: Average::new(LATE),
             long: Average::new(LONG),
             unrestarted: 0,
+            apart: APART,
             unreduced: 0,
             interval: STEP,
         }
@@ -53,11 +56,13 @@ impl Pace {
         self.unreduced = self.unreduced.saturating_add(1);
     }
 
-    /// Whether the search restarts now. It says so once, and then not before two more conflicts.
+    /// Whether the search restarts now. It says so once, not before 250 conflicts, and each time not before 250 more than
+    /// the last time.
     pub fn restart_due(&mut self) -> bool {
-        let due = self.unrestarted >= APART && self.late.is_well_above(&self.long);
+        let due = self.unrestarted >= self.apart && self.late.is_well_above(&self.long);
         if due {
             self.unrestarted = 0;
+            self.apart = self.apart.saturating_add(APART);
         }
         due
     }

@@ -1,23 +1,17 @@
-//! Rows of the crates of the solver, from clauses to `Solver`: calls with what they have to answer.
+//! Rows of the crates that search, from decisions to `Solver`: calls with what they have to answer.
 //!
 //! There is no code here. A crate whose tests stand in it is proved twice in the gate, once without and once with
 //! them; here only the tests are proved, through the public calls of the crates below. One file has the rows of one
-//! crate.
+//! crate, and `grown` a helper of theirs.
 #![tactic(auto)]
 
 #[cfg(test)]
 mod analyze;
 #[cfg(test)]
-mod base;
+mod grown;
 #[cfg(test)]
 mod order;
-#[cfg(test)]
-mod proof;
 #[cfg(test)]
 mod search;
 #[cfg(test)]
 mod solver;
-#[cfg(test)]
-mod told_ids;
-#[cfg(test)]
-mod watch;

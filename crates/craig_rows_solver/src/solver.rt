@@ -1,46 +1,143 @@
 //! Rows of `craig_solver`: clauses are added and solved again and again.
+//!
+//! A row is a function over a solver that it was lent: where it returns early it lets nothing large go, and its proof is
+//! short.
+ghost use Rattle.std.specs.Prelude.{◌≡◌, ◌<◌, ◌≤◌, All, OnOk};
 
-use craig_base::{Lit, Part, Var};
-use craig_proof::{ChainStore, Silent};
+use craig_base::{ClauseId, Lit, Part, Var};
+use craig_proof::{ChainStore, Silent, Tracer};
 use craig_solver::{Answer, Solver};
+use std::alloc::{AllocError, Global};
 use std::test::Fail;
+
+/// Makes the variables below the number known.
+fn reach<T: Tracer>(solver: &mut Solver<T>, vars: u32) -> Result<(), AllocError>
+    requires { vars ≤ 2147483648 }
+    ensures { OnOk result (vars ≤ solver.new.vars) }
+{
+    solver.reach(vars)?;
+    Ok(())
+}
+
+/// The value of the variable, where there is a model.
+fn value<T: Tracer>(
+    solver: &mut Solver<T>,
+    assumptions: &[(Part, Lit)],
+    var: Var,
+) -> Result<Option<bool>, AllocError>
+    requires known { All (λ a. a.1.var < solver.old.vars) assumptions.now }
+    requires var { var.0 < solver.old.vars }
+    ensures { solver.new.vars ≡ solver.old.vars }
+{
+    let Answer::Model(values) = solver.solve(assumptions, None)? else {
+        return Ok(None);
+    };
+    Ok(Some(values.get(var)))
+}
+
+/// The root of a refutation, which is replayed, where the assumptions at the wanted places fail.
+fn root(
+    alloc: Global,
+    solver: &mut Solver<ChainStore>,
+    assumptions: &[(Part, Lit)],
+    wanted: &[usize],
+) -> Result<Option<ClauseId>, AllocError>
+    requires { All (λ a. a.1.var < solver.old.vars) assumptions.now }
+    ensures { solver.new.vars ≡ solver.old.vars }
+{
+    let Answer::Failed { root, places } = solver.solve(assumptions, None)? else {
+        return Ok(None);
+    };
+    let mut part = ChainStore::new(alloc);
+    solver.tracer().replay(root, &mut part)?;
+    if places.as_slice() != wanted {
+        return Ok(None);
+    }
+    Ok(Some(root))
+}
+
+/// Whether a variable is true once a clause leaves it no other value.
+fn gives_value(solver: &mut Solver<Silent>) -> Result<bool, AllocError> {
+    let v0 = Lit::new(Var(0), false);
+    let v1 = Lit::new(Var(1), false);
+    reach(solver, 2)?;
+    solver.add(Part(1), &[v0, v1])?;
+    let before = value(solver, &[], Var(1))?;
+    solver.add(Part(2), &[v0.not()])?;
+    let after = value(solver, &[], Var(1))?;
+    Ok(before.is_some() && after == Some(true))
+}
 
 #[test]
 fn a_model_gives_each_variable_its_value(rt: HostRuntime) -> Result<(), Fail> {
+    let mut solver = Solver::new(rt.alloc(), Silent);
+    assert!(rt; gives_value(&mut solver)?);
+    Ok(())
+}
+
+/// Adds four clauses that have no model.
+fn add_four(solver: &mut Solver<ChainStore>) -> Result<(), AllocError> {
     let v0 = Lit::new(Var(0), false);
     let v1 = Lit::new(Var(1), false);
-    let mut solver = Solver::new(rt.alloc(), Silent);
-    solver.reach(2)?;
+    reach(solver, 2)?;
     solver.add(Part(1), &[v0, v1])?;
-    let Answer::Model(_) = solver.solve(&[], None)? else {
-        panic!(rt; "the clause has a model");
-    };
-    solver.add(Part(2), &[v0.not()])?;
-    let Answer::Model(values) = solver.solve(&[], None)? else {
-        panic!(rt; "the clauses have a model");
-    };
-    assert!(rt; values.get(Var(1)));
-    Ok(())
+    solver.add(Part(1), &[v0, v1.not()])?;
+    solver.add(Part(2), &[v0.not(), v1])?;
+    solver.add(Part(2), &[v0.not(), v1.not()])
+}
+
+/// Whether clauses are refuted twice, the second time under a later root.
+fn is_refuted_twice(alloc: Global, solver: &mut Solver<ChainStore>) -> Result<bool, AllocError> {
+    add_four(solver)?;
+    let first = root(alloc, solver, &[], &[])?;
+    let again = root(alloc, solver, &[], &[])?;
+    Ok(first.is_some() && first < again)
 }
 
 #[test]
 fn a_refutation_is_replayed(rt: HostRuntime) -> Result<(), Fail> {
+    let mut solver = Solver::new(rt.alloc(), ChainStore::new(rt.alloc()));
+    assert!(rt; is_refuted_twice(rt.alloc(), &mut solver)?);
+    Ok(())
+}
+
+/// Whether a literal and its negation fail together, and an assumption that a clause contradicts fails alone.
+fn names_failed(alloc: Global, solver: &mut Solver<ChainStore>) -> Result<bool, AllocError> {
     let v0 = Lit::new(Var(0), false);
     let v1 = Lit::new(Var(1), false);
+    reach(solver, 2)?;
+    let opposite = [(Part(1), v0), (Part(2), v0), (Part(2), v0.not())];
+    let together = root(alloc, solver, &opposite, &[0, 2])?;
+    solver.add(Part(1), &[v0])?;
+    let excluded = [(Part(1), v1), (Part(2), v0.not())];
+    let alone = root(alloc, solver, &excluded, &[1])?;
+    Ok(together.is_some() && alone.is_some())
+}
+
+#[test]
+fn assumptions_fail_by_their_first_places(rt: HostRuntime) -> Result<(), Fail> {
     let mut solver = Solver::new(rt.alloc(), ChainStore::new(rt.alloc()));
-    solver.reach(2)?;
+    assert!(rt; names_failed(rt.alloc(), &mut solver)?);
+    Ok(())
+}
+
+/// Whether assumptions that fail are gone in the next search, and fail under a later root when they come again.
+fn forgets_assumptions(alloc: Global, solver: &mut Solver<ChainStore>) -> Result<bool, AllocError> {
+    let v0 = Lit::new(Var(0), false);
+    let v1 = Lit::new(Var(1), false);
+    reach(solver, 2)?;
     solver.add(Part(1), &[v0, v1])?;
-    solver.add(Part(1), &[v0, v1.not()])?;
-    solver.add(Part(2), &[v0.not(), v1])?;
-    solver.add(Part(2), &[v0.not(), v1.not()])?;
-    let Answer::Failed { root, .. } = solver.solve(&[], None)? else {
-        panic!(rt; "no assignment makes all four true");
-    };
-    let mut part = ChainStore::new(rt.alloc());
-    solver.tracer().replay(root, &mut part)?;
-    let Answer::Failed { root: again, .. } = solver.solve(&[], None)? else {
-        panic!(rt; "the clauses are the same");
-    };
-    assert!(rt; root < again);
+    let assumptions = [(Part(1), v0.not()), (Part(2), v1.not())];
+    let first = root(alloc, solver, &assumptions, &[0, 1])?;
+    let unassumed = value(solver, &[], Var(0))?;
+    let again = root(alloc, solver, &assumptions, &[0, 1])?;
+    let assumed = value(solver, &[(Part(2), v1.not())], Var(0))?;
+    Ok(first.is_some() && unassumed.is_some() && first < again && assumed == Some(true))
+}
+
+#[test]
+fn assumptions_hold_for_one_search(rt: HostRuntime) -> Result<(), Fail> {
+    let mut solver = Solver::new(rt.alloc(), ChainStore::new(rt.alloc()));
+    assert!(rt; forgets_assumptions(rt.alloc(), &mut solver)?);
     Ok(())
 }

@@ -3,7 +3,7 @@ use Rattle.std.proofs.lemmas.Result.{on_ok_weaker}
 use Rattle.craig_proof.specs.Tracer.{original_step}
 use Rattle.craig_proof.proofs.AppendsLemmas.{before_step}
 use Rattle.craig_proof.proofs.CallerLemmas.{greatest_is, three_steps, ChainOk-units, IsUnforgotten-units, IsUnforgotten-last, IsUnforgotten-told, is_some-told}
-use Rattle.craig_rows_solver.proofs.proof.tell_refutation.Goals as goal
+use Rattle.craig_rows_clauses.proofs.proof.tell_refutation.Goals as goal
 
 pub original-requires-2-clause-above : goal.original-requires-2-clause-above
 original-requires-2-clause-above g c = λ x is k h.

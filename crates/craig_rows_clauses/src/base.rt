@@ -84,9 +84,8 @@ fn names_are_numbered_as_they_come(rt: HostRuntime) -> Result<(), Fail> {
     for (name, variable) in [(9, Var(0)), (4, Var(1)), (9, Var(0))] {
         assert_eq!(rt; names.dense(name)?, variable);
     }
-    assert_eq!(rt; names.find(5), None);
     assert_eq!(rt; names.len(), 2);
-    assert_eq!(rt; names.name(Var(1)), 4);
+    assert!(rt; (names.find(5), names.name(Var(1))) == (None, 4));
     Ok(())
 }
 
@@ -109,11 +108,8 @@ fn ids_go_on_after_a_clause_is_let_go(rt: HostRuntime) -> Result<(), Fail> {
     arena.compact();
     let last = arena.add(&[v3], flags)?;
     assert_eq!(rt; last, ClauseId(3));
-    assert!(rt; !arena.live(first));
-    assert!(rt; arena.live(second));
-    assert_eq!(rt; arena.lits(second), [v2].as_slice());
-    assert!(rt; arena.live(last));
-    assert_eq!(rt; arena.lits(last), [v3].as_slice());
+    assert!(rt; (arena.live(first), arena.live(second), arena.live(last)) == (false, true, true));
+    assert!(rt; (arena.lits(second), arena.lits(last)) == ([v2].as_slice(), [v3].as_slice()));
     Ok(())
 }
 

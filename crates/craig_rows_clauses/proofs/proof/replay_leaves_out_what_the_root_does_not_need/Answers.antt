@@ -1,5 +1,5 @@
 use Rattle.std.proofs.Common.{◌≡◌, refl}
-use Rattle.craig_rows_solver.proofs.proof.replay_leaves_out_what_the_root_does_not_need.Goals as goal
+use Rattle.craig_rows_clauses.proofs.proof.replay_leaves_out_what_the_root_does_not_need.Goals as goal
 
 pub replay-requires-clause-root : goal.replay-requires-clause-root
 replay-requires-clause-root g c =

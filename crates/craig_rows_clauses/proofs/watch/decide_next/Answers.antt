@@ -1,5 +1,5 @@
 use Rattle.std.proofs.Common.{ap, refl, ◌∙◌}
-use Rattle.craig_rows_solver.proofs.watch.decide_next.Goals as goal
+use Rattle.craig_rows_clauses.proofs.watch.decide_next.Goals as goal
 
 pub returns-then-not-known : goal.returns-then-not-known
 returns-then-not-known c = refl

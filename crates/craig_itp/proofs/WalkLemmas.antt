@@ -8,7 +8,7 @@ use Rattle.craig_spec.specs.Truth.{Assignment, literal_value}
 use Rattle.craig_spec.specs.Chain.{ChainStep, Derived, Origin, Original, ToldStep, IsTold, antecedents}
 use Rattle.craig_spec.specs.PartialInterpolant.{Label, Labelling, chain_value, join_value, origin_value, partial_values}
 use Rattle.craig_spec.proofs.MemberLemmas.{Contains-front, Contains-from_slice_get, Contains-later, list_any-member, slice_get-below}
-use Rattle.craig_proof.specs.NeededMarks.{last_id}
+use Rattle.craig_proof.specs.NeededSteps.{last_id}
 use Rattle.craig_proof.specs.Tracer.{chain_of}
 use Rattle.craig_proof.specs.declared.step.Step.{Step}
 use Rattle.craig_aig.specs.Cones.{cone}

@@ -4,7 +4,7 @@ use Rattle.craig_spec.specs.Truth.{Assignment}
 use Rattle.craig_spec.specs.Chain.{ChainStep, ToldStep, Told, IsTold, IsUnforgotten}
 use Rattle.craig_spec.specs.Needed.{IsNeededPart}
 use Rattle.craig_spec.specs.PartialInterpolant.{Label, Labelling, chain_value, partial_values}
-use Rattle.craig_proof.specs.NeededMarks.{HasId, last_id}
+use Rattle.craig_proof.specs.NeededSteps.{HasId, last_id}
 use Rattle.craig_label.specs.Sides.{SidesView}
 use Rattle.craig_aig.specs.Cones.{cone}
 use Rattle.craig_aig.specs.Edges.{Edge}

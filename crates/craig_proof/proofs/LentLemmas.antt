@@ -1,22 +1,24 @@
 -- Steps that are lent by their places, whatever they are read from.
-use Rattle.std.proofs.Common.{◌≡◌, ℕ, ◌+◌, ◌<◌, ◌≤◌, Bool, true, false, cond, eqb, List, [], ◌∷◌, ◌++◌, length, get_or, set, take, map, slice_get, All, Some, inl, inr, refl, ap, sym, subst, ◌∙◌, arith, eqb-true}
-use Rattle.std.specs.List.{filter}
+use Rattle.std.proofs.Common.{◌≡◌, ℕ, ◌+◌, ◌<◌, ◌≤◌, eqb, List, length, get_or, set, map, slice_get, All, Option, Some, None, inl, inr, refl, ap, sym, subst, ◌∙◌, arith, eqb-true}
+use Rattle.std.specs.Option.{ForSome, option_map}
 use Rattle.std.proofs.lemmas.Bool.{cases_lt}
-use Rattle.std.proofs.lemmas.List.{append-nil, get_or_default, get_or-set_other, get_or-set_same, length-map, length-set, map-append, take_more}
-use Rattle.std.proofs.lemmas.List.Elements.{filter-append}
+use Rattle.std.proofs.Math.ListN.{get_or-map}
+use Rattle.std.proofs.lemmas.List.{get_or_default, get_or-set_other, get_or-set_same, length-map, length-set}
 use Rattle.std.proofs.lemmas.Option.{get_or_from_slice_get, same_Some, slice_get-get_or, slice_get_read}
 use Rattle.craig_spec.specs.Chain.{AreRising, EachStands, ToldStep}
-use Rattle.craig_spec.specs.Needed.{IsNeededPart, unforgotten}
-use Rattle.craig_spec.proofs.MemberLemmas.{list_any-find, slice_get-below, slice_get-to_map}
-use Rattle.craig_proof.specs.Lent.{ArePlaces}
-use Rattle.craig_proof.specs.NeededMarks.{AreNeededMarks, HasId, mark_of}
-use Rattle.craig_proof.proofs.MarksLemmas.{IsNeededPart-marks}
+use Rattle.craig_spec.specs.Needed.{IsNeededPart}
+use Rattle.craig_spec.proofs.MemberLemmas.{list_any-find, slice_get-below, slice_get-from_map, slice_get-to_map}
+use Rattle.craig_proof.specs.Lent.{ArePlaces, IsAtPlace}
+use Rattle.craig_proof.specs.NeededSteps.{HasId}
 use Rattle.craig_proof.proofs.PartLemmas.{NeededPart-steps}
 use Rattle.craig_proof.proofs.RootLemmas.{needed_below_root}
 
 -- the step of a row
 pub step_at : {R : Type 0} (f : R → ToldStep) (rows : List R) (place : ℕ) (r : R) → place < length (map f rows) → r ≡ get_or rows place r → slice_get (map f rows) place ≡ Some (f r)
 step_at f rows place r within is = slice_get-to_map f rows place r (slice_get_read rows (length (map f rows)) place r (length-map rows f) within is)
+
+pub row_is : {R : Type 0} (f : R → ToldStep) (rows : List R) (place : ℕ) (r : R) → r ≡ get_or rows place r → get_or (map f rows) place (f r) ≡ f r
+row_is f rows place r is = get_or-map f rows place r ∙ ap f (sym is)
 
 pub row_at : {R : Type 0} (f : R → ToldStep) (rows : List R) (place : ℕ) (d : R) → place < length rows → slice_get (map f rows) place ≡ Some (f (get_or rows place d))
 row_at f rows place d within = slice_get-to_map f rows place (get_or rows place d) (slice_get-get_or rows place d within)
@@ -40,17 +42,16 @@ place_found steps places id n d are has is =
     let same : n ≡ h.0 = is ∙ get_or_from_slice_get places id h.0 d at in
     (h.1, ap (slice_get steps) same ∙ h.2, h.3)
 
--- the steps that pass, one more of them
-module _ {R : Type 0} (f : R → ToldStep) (p : ℕ → Bool) (steps : List ToldStep) (place : ℕ) (within : place < length steps) where
-  passing : (s : ToldStep) (b : Bool) → get_or steps place s ≡ s → p s.id ≡ b → filter (λ (q : ToldStep). p q.id) (take (place + 1) steps) ≡ filter (λ (q : ToldStep). p q.id) (take place steps) ++ cond b (s ∷ []) []
-  passing s b at e = rw (take_more steps place s within, filter-append, at, e) refl
-
-  pub passing_pushed : (old new : List R) (r : R) → get_or steps place (f r) ≡ f r → p (f r).id ≡ true → new ≡ old ++ r ∷ [] → map f old ≡ filter (λ (q : ToldStep). p q.id) (take place steps) → map f new ≡ filter (λ (q : ToldStep). p q.id) (take (place + 1) steps)
-  passing_pushed old new r at on is before =
-      ap (map f) is ∙ map-append f old (r ∷ []) ∙ ap (λ (qs : List ToldStep). qs ++ f r ∷ []) before ∙ sym (passing (f r) true at on)
-
-  pub passing_left : (old : List R) (s : ToldStep) → get_or steps place s ≡ s → p s.id ≡ false → map f old ≡ filter (λ (q : ToldStep). p q.id) (take place steps) → map f old ≡ filter (λ (q : ToldStep). p q.id) (take (place + 1) steps)
-  passing_left old s at off before = before ∙ sym (passing s false at off ∙ append-nil _)
+-- a step is found among the rows
+pub place_lent : {R : Type 0} (f : R → ToldStep) (rows : List R) (id r : ℕ) → ((k : ℕ) (d : R) → k < length rows → (f (get_or rows k d)).id ≡ id → r ≡ k) → HasId (map f rows) id → IsAtPlace (map f rows) r (λ s. s.id ≡ id)
+place_lent f rows id r found has =
+    let h = HasId-at (map f rows) id has in
+    let x = slice_get-from_map f rows h.0 h.1 h.2 in
+    let within : h.0 < length rows = slice_get-below rows h.0 x.0 x.1 in
+    let at = get_or_from_slice_get rows h.0 x.0 x.0 x.1 in
+    let id_is : (f x.0).id ≡ id = ap (λ (q : ToldStep). q.id) x.2 ∙ h.3 in
+    let same : r ≡ h.0 = found h.0 x.0 within (ap (λ y. (f y).id) at ∙ id_is) in
+    (h.1, ap (slice_get (map f rows)) same ∙ h.2, h.3)
 
 -- one place more in the table
 pub places_more : (steps : List ToldStep) (places : List ℕ) (place : ℕ) (s : ToldStep) → AreRising steps → slice_get steps place ≡ Some s → s.id < length places
@@ -82,19 +83,22 @@ id_below steps bound place s all at =
     let low : (get_or steps place s).id < bound = all place s (slice_get-below steps place s at) in
     subst (λ (q : ToldStep). q.id < bound) (get_or_from_slice_get steps place s s at) low
 
--- rows of the steps that pass are the part of these steps
-forgiven : {R : Type 0} (f : R → ToldStep) (rows : List R) → map (λ r. unforgotten (f r)) rows ≡ map unforgotten (map f rows)
-forgiven f [] = refl
-forgiven f (r ∷ rows) = ap (λ qs. unforgotten (f r) ∷ qs) (forgiven f rows)
-
-pub rows_part : {R : Type 0} (f : R → ToldStep) (rows : List R) (steps : List ToldStep) (root : ℕ) (marks : List Bool) → AreNeededMarks steps root marks → map f rows ≡ filter (λ (q : ToldStep). mark_of steps marks q.id) steps → IsNeededPart steps root (map (λ r. unforgotten (f r)) rows)
-rows_part f rows steps root marks needed is = IsNeededPart-marks steps root marks (map (λ r. unforgotten (f r)) rows) needed (forgiven f rows ∙ ap (map unforgotten) is)
-
--- its ids rise up to the root
-pub part_below : (steps part : List ToldStep) (root bound : ℕ) → AreRising steps → EachStands steps → IsNeededPart steps root part → root < bound → All (λ (q : ToldStep). q.id < bound) part
-part_below steps part root bound rising stand is low k d within =
+-- the ids of what a root needs are at most the root's
+pub part_low : (steps part : List ToldStep) (root : ℕ) → AreRising steps → EachStands steps → IsNeededPart steps root part → All (λ (q : ToldStep). q.id ≤ root) part
+part_low steps part root rising stand is k d within =
     let s = get_or part k d in
     let from = NeededPart-steps steps part root s is (k, within, get_or_default part k s d within) in
     let id_is : s.id ≡ (from.0).id = ap (λ (q : ToldStep). q.id) from.2 in
     let high : (from.0).id ≤ root = needed_below_root steps root (from.0).id rising stand from.3 in
     omega arith
+
+pub all_below : (steps : List ToldStep) (root bound : ℕ) → bound ≡ root + 1 → All (λ (q : ToldStep). q.id ≤ root) steps → All (λ (q : ToldStep). q.id < bound) steps
+all_below steps root bound is low k d within = let le : (get_or steps k d).id ≤ root = low k d within in omega arith
+
+-- what holds of the members of a table that may be there
+pub table_items : {V : Type 0} (items : V → List ℕ) (P : List ℕ → Type 0) (t : Option V) → ForSome t (λ v. P (items v)) → ForSome (option_map items t) P
+table_items items P None h = λ x e. absurd (cc)
+table_items items P (Some v) h = λ x e. let is : items v ≡ x = cc in subst P is (h v refl)
+
+pub table_at : {V : Type 0} (items : V → List ℕ) (P : List ℕ → Type 0) (t : Option V) (v : V) → t ≡ Some v → ForSome (option_map items t) P → P (items v)
+table_at items P t v is h = h (items v) (rw is refl)

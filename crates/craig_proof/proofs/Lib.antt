@@ -5,7 +5,7 @@ pub mod ChainLemmas
 pub mod CoversLemmas
 pub mod FollowsLemmas
 mod LentLemmas
-pub mod MarksLemmas
+pub mod FindingLemmas
 pub mod OldOrNextLemmas
 pub mod PairLemmas
 pub mod PartLemmas

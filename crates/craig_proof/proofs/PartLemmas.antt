@@ -7,10 +7,12 @@ use Rattle.std.proofs.lemmas.List.Kept.{AllPairs-filter}
 use Rattle.std.proofs.Math.ListN.{get_or-map}
 use Rattle.std.proofs.Math.Bool.{or-true}
 use Rattle.craig_spec.proofs.MemberLemmas.{Contains-front, Contains-later}
+use Rattle.craig_base.specs.Clauses.{IsNormal}
 use Rattle.craig_spec.specs.Literal.{Clause}
 use Rattle.craig_spec.specs.Chain.{ToldStep, Told, antecedents, clause_told, IsUnforgotten, EachStands, AreRising, IsTold}
-use Rattle.craig_spec.specs.Needed.{IsNeeded, IsNeededPart, unforgotten}
-use Rattle.craig_proof.specs.NeededMarks.{last_id}
+use Rattle.craig_spec.specs.Needed.{IsNeeded, IsNeededPart, IsOriginal, unforgotten}
+use Rattle.craig_proof.specs.NeededSteps.{last_id}
+use Rattle.craig_proof.specs.StoredSteps.{OriginalsNormal}
 use Rattle.craig_proof.proofs.ChainLemmas.{StandsOn-same}
 use Rattle.craig_proof.proofs.ReclaimLemmas.{EachStands-left, clause_told-left}
 use Rattle.craig_proof.proofs.ReplayLemmas.{part}
@@ -144,13 +146,22 @@ needed_closed : (steps : List ToldStep) (root a : ℕ) (s : ToldStep) → Contai
 needed_closed steps root a s here need ante p rooted closed = closed s a here (need p rooted closed) ante
 
 -- so the needed steps stand on one another by themselves
-NeededPart-stand : (steps part : List ToldStep) (root : ℕ) → EachStands steps → IsNeededPart steps root part → EachStands part
+pub NeededPart-stand : (steps part : List ToldStep) (root : ℕ) → EachStands steps → IsNeededPart steps root part → EachStands part
 NeededPart-stand steps part root stand (p, needed, is) =
     rw is (EachStands-unforgotten (filter (λ s. p s.id) steps) (EachStands-left (λ s. p s.id) steps stand (λ s r here there on ante. (needed r there).1 (needed_closed steps root r.id s here ((needed s here).0 on) ante))))
 
 pub NeededPart-rising : (steps part : List ToldStep) (root : ℕ) → AreRising steps → IsNeededPart steps root part → AreRising part
 NeededPart-rising steps part root rising (p, needed, is) =
     rw is (AreRising-unforgotten (filter (λ s. p s.id) steps) (AllPairs-filter (λ r s. r.id < s.id) (λ s. p s.id) steps rising))
+
+-- originals among them are normal where all are
+pub NeededPart-normal : (steps part : List ToldStep) (root : ℕ) → OriginalsNormal steps → IsNeededPart steps root part → OriginalsNormal part
+NeededPart-normal steps part root normal needed k d within original =
+    let s : ToldStep = get_or part k d in
+    let w = NeededPart-steps steps part root s needed (k, within, get_or_default part k s d within) in
+    let is : get_or steps w.1.0 s ≡ w.0 = get_or_default steps w.1.0 s w.0 w.1.1 ∙ w.1.2 in
+    let of_step : IsOriginal w.0.origin → IsNormal w.0.literals = rw is at (normal w.1.0 s w.1.1) in
+    rw w.2 (of_step (rw w.2 at original))
 
 pub NeededPart-told : (t u : Told) (root : ℕ) → IsTold t → IsNeededPart t.steps root u.steps → u.greatest ≡ Some root → IsTold u
 NeededPart-told t u root told needed greatest = record {

@@ -5,9 +5,9 @@ use Rattle.std.proofs.lemmas.Bool.Decides.{nat_tests}
 use Rattle.std.proofs.lemmas.List.{get_or_default}
 use Rattle.craig_spec.specs.Chain.{ToldStep, antecedents, IsUnforgotten, EachStands, AreRising}
 use Rattle.craig_spec.specs.Needed.{IsNeeded, unforgotten}
-use Rattle.craig_proof.specs.NeededMarks.{last_id}
+use Rattle.craig_proof.specs.NeededSteps.{last_id}
 use Rattle.craig_proof.proofs.ToldLemmas.{unforgotten_place}
-use Rattle.craig_proof.proofs.MarksLemmas.{antecedent_before}
+use Rattle.craig_proof.proofs.FindingLemmas.{antecedent_before}
 use Rattle.craig_proof.proofs.ReplayLemmas.{part}
 
 below_ltb : (x y : ℕ) → x < y → ltb x y ≡ true

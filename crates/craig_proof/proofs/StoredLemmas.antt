@@ -6,24 +6,27 @@ use Rattle.std.proofs.lemmas.Bool.Decides.{nat_tests}
 use Rattle.std.proofs.Math.ListN.{get_or-map}
 use Rattle.craig_spec.specs.Chain.{ToldStep, IsUnforgotten, without_id}
 use Rattle.craig_base.specs.declared.clause_id.ClauseId.{ClauseId}
-use Rattle.craig_proof.specs.NeededMarks.{HasId}
+use Rattle.craig_proof.specs.NeededSteps.{HasId}
 use Rattle.craig_proof.specs.StoredSteps.{step_of, told_of}
 use Rattle.craig_proof.specs.declared.stored_step.StoredStep.{StoredStep}
 use Rattle.craig_proof.proofs.ToldLemmas.{HasId-unforgotten, has_place, set-forgotten}
 
--- the ids rise in the store as they do in what it tells
+-- the ids rise in the rows as they do in what they tell
+pub rising_rows : {R : Type 0} (f : R → ToldStep) (xs : List R) → AllPairs (λ r s. r.id < s.id) (map f xs) → AllPairs (λ r s. (f r).id < (f s).id) xs
+rising_rows f xs rising i j d before within =
+    let h = rising i j (f d) before (rw length-map within) in
+    rw (get_or-map f xs i d, get_or-map f xs j d) at h
+
 pub rising_stored : (xs : List StoredStep) → AllPairs (λ r s. r.id < s.id) (map step_of xs) → AllPairs (λ r s. r.id.0 < s.id.0) xs
-rising_stored xs rising i j d before within =
-    let h = rising i j (step_of d) before (rw length-map within) in
-    rw (get_or-map step_of xs i d, get_or-map step_of xs j d) at h
+rising_stored xs rising = rising_rows step_of xs rising
 
 -- the test of the search holds of a front of the steps
 pub partitioned_at : (x y id i j : ℕ) → i ≤ j → ltb y id ≡ true → (i < j → x < y) → (i ≡ j → x ≡ y) → ltb x id ≡ true
 partitioned_at x y id i j le h rises same = grind (arith, nat_tests)
 
-pub IsPartitionedBy-ids : (xs : List StoredStep) (id : ℕ) → AllPairs (λ r s. r.id.0 < s.id.0) xs → IsPartitionedBy (λ s. ltb s.id.0 id) xs
-IsPartitionedBy-ids xs id rising i j d le within h =
-    partitioned_at (get_or xs i d).id.0 (get_or xs j d).id.0 id i j le h (λ before. rising i j d before within) (λ same. ap (λ k. (get_or xs k d).id.0) same)
+pub IsPartitionedBy-ids : {R : Type 0} (f : R → ℕ) (xs : List R) (id : ℕ) → AllPairs (λ r s. f r < f s) xs → IsPartitionedBy (λ s. ltb (f s) id) xs
+IsPartitionedBy-ids f xs id rising i j d le within h =
+    partitioned_at (f (get_or xs i d)) (f (get_or xs j d)) id i j le h (λ before. rising i j d before within) (λ same. ap (λ k. f (get_or xs k d)) same)
 
 pub not_below : (x id : ℕ) → ltb x id ≡ true → x ≡ id → ⊥
 not_below x id h e = grind (arith, nat_tests)
@@ -32,10 +35,10 @@ pub not_above : (x id : ℕ) → ltb x id ≡ false → x < id → ⊥
 not_above x id h lt = grind (arith, nat_tests)
 
 -- and the place where it ends is that of the id
-pub place_found : (xs : List StoredStep) (id r : ℕ) → AllPairs (λ r s. r.id.0 < s.id.0) xs → IsPartitionPoint (λ s. ltb s.id.0 id ≡ true) (λ s. ltb s.id.0 id ≡ false) xs r → (k : ℕ) (d : StoredStep) → k < length xs → (get_or xs k d).id.0 ≡ id → r ≡ k
-place_found xs id r rising point k d within at =
-    let before : k < r → ⊥ = λ lt. not_below (get_or xs k d).id.0 id (point.0 k d (omega arith) lt) at in
-    let after : r < k → ⊥ = λ lt. not_above (get_or xs r d).id.0 id (point.1 r d (omega arith) (omega arith)) (let up : (get_or xs r d).id.0 < (get_or xs k d).id.0 = rising r k d lt within in omega arith) in
+pub place_found : {R : Type 0} (f : R → ℕ) (xs : List R) (id r : ℕ) → AllPairs (λ r s. f r < f s) xs → IsPartitionPoint (λ s. ltb (f s) id ≡ true) (λ s. ltb (f s) id ≡ false) xs r → (k : ℕ) (d : R) → k < length xs → f (get_or xs k d) ≡ id → r ≡ k
+place_found f xs id r rising point k d within at =
+    let before : k < r → ⊥ = λ lt. not_below (f (get_or xs k d)) id (point.0 k d (omega arith) lt) at in
+    let after : r < k → ⊥ = λ lt. not_above (f (get_or xs r d)) id (point.1 r d (omega arith) (omega arith)) (let up : f (get_or xs r d) < f (get_or xs k d) = rising r k d lt within in omega arith) in
     omega (arith, before, after)
 
 -- an id stands at the place that is found

@@ -12,7 +12,7 @@ use Rattle.craig_spec.specs.Literal.{Clause}
 use Rattle.craig_spec.specs.Chain.{Origin, ToldStep, Told, nothing_told, with_step, forgotten_at, without_id, clause_told, IsUnforgotten, IsAbove, StandsOn, IsTold}
 use Rattle.craig_spec.specs.Needed.{IsOriginal}
 use Rattle.craig_base.specs.Clauses.{IsNormal}
-use Rattle.craig_proof.specs.NeededMarks.{HasId}
+use Rattle.craig_proof.specs.NeededSteps.{HasId}
 use Rattle.craig_proof.specs.StoredSteps.{IsStore}
 use Rattle.craig_proof.proofs.ChainLemmas.{StandsOn-same}
 

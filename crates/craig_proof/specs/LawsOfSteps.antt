@@ -3,7 +3,7 @@ use Rattle.std.specs.Prelude.{◌≡◌, false, ℕ, List, Some, Contains}
 use Rattle.craig_spec.specs.Literal.{Clause}
 use Rattle.craig_spec.specs.Chain.{ToldStep, Told, IsTold, IsUnforgotten, clause_told}
 use Rattle.craig_spec.specs.Needed.{IsNeeded, IsNeededPart, unforgotten}
-use Rattle.craig_proof.specs.NeededMarks.{last_id}
+use Rattle.craig_proof.specs.NeededSteps.{last_id}
 
 -- a clause that is found under an id is that of a step
 abbrev pub FoundClausesAreOfSteps : Type 0

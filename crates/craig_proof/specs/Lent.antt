@@ -1,6 +1,7 @@
 -- Steps that are lent from a store, each by its place.
-use Rattle.std.specs.Prelude.{◌≡◌, ℕ, List, Some, slice_get}
-use Rattle.craig_spec.specs.Chain.{ToldStep, Original, Derived}
+use Rattle.std.specs.Prelude.{◌≡◌, ℕ, List, Option, Some, slice_get}
+use Rattle.std.specs.Option.{ForSome}
+use Rattle.craig_spec.specs.Chain.{ToldStep, Original, Derived, AreRising}
 use Rattle.craig_proof.specs.Tracer.{chain_of}
 use Rattle.craig_proof.specs.declared.needed.NeededStep.{NeededStep}
 use Rattle.craig_proof.specs.declared.needed.NeededStep.TheVariants as lent
@@ -17,3 +18,10 @@ IsLent s (lent.Derived first rest) = s.origin ≡ Derived first.0 (chain_of rest
 -- at the id of each step the table has its place
 abbrev pub ArePlaces : List ToldStep → List ℕ → Type 0
 ArePlaces steps places = (k : ℕ) (s : ToldStep) → slice_get steps k ≡ Some s → slice_get places s.id ≡ Some k
+
+-- steps by rising id, with their table, if they have one
+pub record IsLentList (steps : List ToldStep) (table : Option (List ℕ)) : Type 0 where
+  -- their ids rise
+  pub rising : AreRising steps
+  -- the table has their places
+  pub places : ForSome table (ArePlaces steps)

@@ -4,7 +4,7 @@ pub mod LawsOfChains
 pub mod LawsOfCovering
 pub mod LawsOfSteps
 pub mod Lent
-pub mod NeededMarks
+pub mod NeededSteps
 pub mod Pair
 pub mod StoredSteps
 pub mod Tracer

@@ -1,7 +1,7 @@
 //! A tracer that keeps the whole refutation, and tells another the part of it that one clause needs.
 //!
-//! Kept steps stand in a list by rising id. What a root needs is found by one pass from the last step back, as proof
-//! checkers do since Goldberg and Novikov (DATE 2003).
+//! Kept steps stand in a list by rising id. What a root needs is found from the last needed step to the first, as proof
+//! checkers do since Goldberg and Novikov (DATE 2003), but by a set of ids in place of a mark a step.
 
 ghost use Rattle.std.specs.Prelude.{◌≡◌, Some, None, true, false, All, is_some, IfOk, OnOk, OnErr, IsErr};
 ghost use Rattle.std.specs.Option.{ForSome, option_map};
@@ -11,9 +11,9 @@ ghost use Rattle.craig_spec.specs.Needed.{AllFollow, IsNeededPart, Reclaims};
 ghost use Rattle.craig_proof.specs.ChainStore.{IsReplayed};
 ghost use Rattle.craig_proof.specs.Tracer.{chain_of, original_step, derived_step, Appends, AreUnforgotten, IsReclaimed, IsToldChain};
 
-use crate::marks::needed_marks;
+use crate::finding::needed_steps;
 use crate::place::place_of;
-use crate::replay::tell_marked;
+use crate::replay::tell_all;
 use crate::stored_step::{StoredOrigin, StoredStep};
 use crate::{Needed, Step, Tracer};
 use craig_base::{ClauseId, Lit, Part};
@@ -60,8 +60,8 @@ impl ChainStore {
 
     /// Tells `into` the steps that the root needs, by rising id and under their ids: the root's own, and with each
     /// step those of its antecedents. The store stays as it is. The root isn't forgotten, and `into` was told nothing.
-    /// It takes memory for a mark a step, and apart from what `into` does its time grows with the length of the
-    /// store, and with that of the needed chains times the logarithm of the store's.
+    /// It takes memory for a reference a needed step, and apart from what `into` does its time grows with the length of
+    /// the needed chains times the logarithm of the store's.
     pub fn replay<T: Tracer>(&self, root: ClauseId, into: &mut T) -> Result<(), AllocError>
         requires root { IsUnforgotten self.now.told.steps root.0 }
         requires nothing { ForSome (T.told into.old) (λ t. t ≡ nothing_told) }
@@ -73,14 +73,12 @@ impl ChainStore {
         if self.dead {
             return Err(AllocError);
         }
-        let steps = self.steps.as_slice();
-        let marks = needed_marks(*self.steps.allocator(), steps, root)?;
-        tell_marked(steps, marks.as_slice(), into)
+        let needed = needed_steps(*self.steps.allocator(), self.steps.as_slice(), root)?;
+        tell_all(needed.as_slice(), into)
     }
 
-    /// The steps that the root needs, lent one by one, for more than one walk over them. The root isn't forgotten. It takes
-    /// memory for a mark a kept step, a reference a needed one and a number an id up to the root, and its time is that of
-    /// [`replay`](ChainStore::replay) without what that tells.
+    /// The steps that the root needs, lent one by one, for more than one walk over them. The root isn't forgotten. Memory
+    /// and time grow with what is needed, as those of [`replay`](ChainStore::replay) without what that tells.
     pub fn needed(&self, root: ClauseId) -> Result<Needed<'_>, AllocError>
         requires { IsUnforgotten self.now.told.steps root.0 }
         ensures needed { IfOk result (IsNeededPart self.now.told.steps root.0) }
@@ -89,10 +87,7 @@ impl ChainStore {
         if self.dead {
             return Err(AllocError);
         }
-        let alloc = *self.steps.allocator();
-        let steps = self.steps.as_slice();
-        let marks = needed_marks(alloc, steps, root)?;
-        Needed::marked(alloc, steps, marks.as_slice(), root)
+        Needed::of_root(*self.steps.allocator(), self.steps.as_slice(), root)
     }
 
     /// What was told is a list of steps by rising id, each on those before it, and each clause of it is true

@@ -7,8 +7,8 @@
 #![tactic(auto)]
 
 mod chain_store;
+mod finding;
 pub mod laws;
-mod marks;
 mod needed;
 mod pair;
 mod place;

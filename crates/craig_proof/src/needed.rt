@@ -1,13 +1,15 @@
 //! The steps that one clause needs, lent from the store that keeps them.
-ghost use Rattle.std.specs.Prelude.{◌≡◌, ◌<◌, ◌==◌, ◌+◌, All, length, map, IfOk, IsErr};
-ghost use Rattle.std.specs.List.{filter};
+ghost use Rattle.std.specs.Prelude.{◌≡◌, ◌<◌, ◌≤◌, ◌==◌, All, length, map, IfOk};
+ghost use Rattle.std.specs.Option.{ForSome};
 ghost use Rattle.craig_spec.specs.Chain.{AreRising, EachStands};
 ghost use Rattle.craig_proof.specs.Lent.{ArePlaces, IsAtPlace, IsLent};
 ghost use Rattle.craig_spec.specs.Needed.{IsNeededPart, unforgotten};
-ghost use Rattle.craig_proof.specs.NeededMarks.{AreNeededMarks, HasId, mark_of};
+ghost use Rattle.craig_proof.specs.NeededSteps.{HasId};
 ghost use Rattle.craig_proof.specs.StoredSteps.{step_of};
 
 use crate::Step;
+use crate::finding::needed_steps;
+use crate::place::place_among;
 use crate::stored_step::{StoredOrigin, StoredStep};
 use craig_base::{ClauseId, Lit, Part};
 use std::alloc::{AllocError, Global};
@@ -30,42 +32,27 @@ pub enum NeededStep<'a> {
 pub struct Needed<'a> {
     // by rising id
     steps: Vec<&'a StoredStep>,
-    // at the id of each step its place
-    places: Vec<usize>,
+    // at the id of each step its place, where such a table isn't much longer than the steps
+    places: Option<Vec<usize>>,
 }
 
 impl<'a> Model for Needed<'a> {
     ghost use Rattle.std.specs.Prelude.{List, map};
+    ghost use Rattle.std.specs.Option.{option_map};
     ghost use Rattle.craig_spec.specs.Chain.{ToldStep};
     ghost use Rattle.craig_spec.specs.Needed.{unforgotten};
-    ghost use Rattle.craig_proof.specs.Lent.{ArePlaces};
+    ghost use Rattle.craig_proof.specs.Lent.{IsLentList};
     ghost use Rattle.craig_proof.specs.StoredSteps.{step_of};
 
     ghost Value = { List ToldStep };
 
     ghost view = { λ n. map (λ r. unforgotten (step_of r.now)) n.steps.items };
 
-    ghost invariant = { λ n. ArePlaces (map (λ r. unforgotten (step_of r.now)) n.steps.items) n.places.items };
+    ghost invariant = { λ n. IsLentList (map (λ r. unforgotten (step_of r.now)) n.steps.items) (option_map (λ v. v.items) n.places) };
 }
 
-/// The steps that are marked, first to last.
-fn marked_steps<'a>(
-    alloc: Global,
-    steps: &'a [StoredStep],
-    marks: &[bool],
-) -> Result<Vec<&'a StoredStep>, AllocError>
-    requires lengths { length marks.now ≡ length steps.now }
-    requires rising { AreRising (map step_of steps.now) }
-    ensures { IfOk result (λ v. map (λ r. step_of r.now) v.items ≡ filter (λ s. mark_of (map step_of steps.now) marks.now s.id) (map step_of steps.now)) }
-{
-    let mut marked = Vec::new(alloc);
-    for place in 0..steps.len() {
-        if marks[place] {
-            marked.push(&steps[place])?;
-        }
-    }
-    Ok(marked)
-}
+/// How many ids up to the root there may be for each needed step, so that places are kept in a table by id.
+const SPREAD: usize = 16;
 
 /// A table of places: at the id of each step, which is below the bound, its place among them.
 fn places_by_id(
@@ -84,24 +71,40 @@ fn places_by_id(
     Ok(places)
 }
 
+/// The table of places, unless it is much longer than the steps, whose ids are at most that of the root.
+fn table_of_places(
+    alloc: Global,
+    steps: &[&StoredStep],
+    root: ClauseId,
+) -> Result<Option<Vec<usize>>, AllocError>
+    requires rising { AreRising (map (λ r. unforgotten (step_of r.now)) steps.now) }
+    requires low { All (λ s. s.id ≤ root.0) (map (λ r. unforgotten (step_of r.now)) steps.now) }
+    ensures { IfOk result (λ table. ForSome table (λ v. ArePlaces (map (λ r. unforgotten (step_of r.now)) steps.now) v.items)) }
+{
+    let last = root.0 as usize;
+    if last / SPREAD >= steps.len() {
+        return Ok(None);
+    }
+    match last.checked_add(1) {
+        Some(bound) => Ok(Some(places_by_id(alloc, steps, bound)?)),
+        None => Ok(None),
+    }
+}
+
 impl<'a> Needed<'a> {
-    /// The steps that are marked, which are those that the root needs.
-    pub(crate) fn marked(
+    /// The steps that the root needs.
+    pub(crate) fn of_root(
         alloc: Global,
         steps: &'a [StoredStep],
-        marks: &[bool],
         root: ClauseId,
     ) -> Result<Needed<'a>, AllocError>
         requires rising { AreRising (map step_of steps.now) }
         requires stand { EachStands (map step_of steps.now) }
-        requires marks { AreNeededMarks (map step_of steps.now) root.0 marks.now }
+        requires root { HasId (map step_of steps.now) root.0 }
         ensures { IfOk result (IsNeededPart (map step_of steps.now) root.0) }
     {
-        let Some(bound) = (root.0 as usize).checked_add(1) else {
-            return Err(AllocError);
-        };
-        let steps = marked_steps(alloc, steps, marks)?;
-        let places = places_by_id(alloc, steps.as_slice(), bound)?;
+        let steps = needed_steps(alloc, steps, root)?;
+        let places = table_of_places(alloc, steps.as_slice(), root)?;
         Ok(Needed { steps, places })
     }
 
@@ -136,6 +139,9 @@ impl<'a> Needed<'a> {
         requires { HasId self.now id.0 }
         ensures { IsAtPlace self.now result (λ s. s.id ≡ id.0) }
     {
-        self.places[id.0 as usize]
+        match &self.places {
+            Some(places) => places[id.0 as usize],
+            None => place_among(self.steps.as_slice(), id),
+        }
     }
 }

@@ -1,10 +1,10 @@
-//! Telling a tracer the marked steps again, from the first to the last.
-ghost use Rattle.std.specs.Prelude.{◌≡◌, All, length, map, is_some, OnOk};
+//! Telling a tracer kept steps again, from the first to the last.
+ghost use Rattle.std.specs.Prelude.{◌≡◌, All, map, is_some, OnOk};
 ghost use Rattle.std.specs.Option.{ForSome};
 ghost use Rattle.craig_base.specs.Clauses.{IsNormal};
 ghost use Rattle.craig_spec.specs.Chain.{AreRising, EachStands, StandsOn, IsAbove, IsUnforgotten, antecedents, nothing_told};
-ghost use Rattle.craig_spec.specs.Needed.{IsClosed, IsOriginal, unforgotten};
-ghost use Rattle.craig_proof.specs.NeededMarks.{TellsMarkedSteps, mark_of};
+ghost use Rattle.craig_spec.specs.Needed.{IsOriginal, unforgotten};
+ghost use Rattle.craig_proof.specs.NeededSteps.{TellsSteps};
 ghost use Rattle.craig_proof.specs.StoredSteps.{OriginalsNormal, origin_of, step_of};
 ghost use Rattle.craig_proof.specs.Tracer.{Appends};
 
@@ -34,26 +34,18 @@ fn tell<T: Tracer>(step: &StoredStep, into: &mut T) -> Result<(), AllocError>
     }
 }
 
-/// Tells the steps that are marked, first to last.
-pub(crate) fn tell_marked<T: Tracer>(
-    steps: &[StoredStep],
-    marks: &[bool],
-    into: &mut T,
-) -> Result<(), AllocError>
-    requires lengths { length marks.now ≡ length steps.now }
-    requires rising { AreRising (map step_of steps.now) }
-    requires stand { EachStands (map step_of steps.now) }
-    requires normal { OriginalsNormal (map step_of steps.now) }
-    requires closed { IsClosed (map step_of steps.now) (mark_of (map step_of steps.now) marks.now) }
+/// Tells the steps, first to last.
+pub(crate) fn tell_all<T: Tracer>(steps: &[&StoredStep], into: &mut T) -> Result<(), AllocError>
+    requires rising { AreRising (map (λ r. unforgotten (step_of r.now)) steps.now) }
+    requires stand { EachStands (map (λ r. unforgotten (step_of r.now)) steps.now) }
+    requires normal { OriginalsNormal (map (λ r. unforgotten (step_of r.now)) steps.now) }
     requires nothing { ForSome (T.told into.old) (λ t. t ≡ nothing_told) }
-    ensures told { OnOk result (TellsMarkedSteps (map step_of steps.now) marks.now (T.told into.old) (T.told into.new)) }
+    ensures told { OnOk result (TellsSteps (map (λ r. unforgotten (step_of r.now)) steps.now) (T.told into.old) (T.told into.new)) }
     ensures tells { is_some (T.told into.new) ≡ is_some (T.told into.old) }
     ensures kept { T.kept into.new ≡ T.kept into.old }
 {
-    for place in 0..steps.len() {
-        if marks[place] {
-            tell(&steps[place], into)?;
-        }
+    for step in steps {
+        tell(step, into)?;
     }
     Ok(())
 }

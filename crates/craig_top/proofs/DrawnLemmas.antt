@@ -13,7 +13,7 @@ use Rattle.craig_spec.specs.PartialInterpolant.{Label, Labelling, partial_interp
 use Rattle.craig_spec.specs.Sequence.{IsOutputAt}
 use Rattle.craig_base.specs.declared.script_part.Part.{Part}
 use Rattle.craig_label.specs.Sides.{SidesView}
-use Rattle.craig_proof.specs.NeededMarks.{last_id}
+use Rattle.craig_proof.specs.NeededSteps.{last_id}
 use Rattle.craig_aiger.specs.Layouts.{dense_assignment}
 use Rattle.craig_itp.specs.Labellings.{cut_value}
 use Rattle.craig_system.specs.Rules.{labelling}

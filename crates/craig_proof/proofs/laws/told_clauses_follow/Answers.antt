@@ -1,5 +1,5 @@
 use Rattle.craig_proof.proofs.FollowsLemmas.{AllFollow-told}
-use Rattle.craig_proof.proofs.MarksLemmas.{IsNeededPart-exists}
+use Rattle.craig_proof.proofs.FindingLemmas.{IsNeededPart-exists}
 use Rattle.craig_proof.proofs.laws.told_clauses_follow.Goals as goal
 
 pub returns-clause-follows : goal.returns-clause-follows

@@ -1,0 +1,40 @@
+-- The steps that a root needs, as they are found.
+use Rattle.std.specs.Prelude.{◌≡◌, ◌<◌, ◌||◌, ◌&&◌, ℕ, Bool, not, List, [], ◌∷◌, Option, Some, None, Contains, IsTrue, nat_eq}
+use Rattle.std.specs.BTreeSet.{BTreeSet, contains}
+use Rattle.std.specs.List.{list_any}
+use Rattle.std.specs.Option.{ForSome}
+use Rattle.std.specs.Ordering.{nat_cmp}
+use Rattle.craig_spec.specs.Chain.{ToldStep, Told}
+
+-- the id of the last step
+abbrev pub last_id : List ToldStep → Option ℕ
+last_id [] = None
+last_id (s ∷ []) = Some s.id
+last_id (s ∷ r ∷ steps) = last_id (r ∷ steps)
+
+-- one of the steps has the id
+abbrev pub HasId : List ToldStep → ℕ → Type 0
+HasId steps id = IsTrue (list_any (λ s. nat_eq s.id id) steps)
+
+-- the id is in the set
+abbrev pub waits : BTreeSet ℕ → ℕ → Bool
+waits set id = contains nat_cmp set id
+
+-- the ids that pass the test are in the set beside those that were in it before, and no others
+abbrev pub WaitsMore : (ℕ → Bool) → BTreeSet ℕ → BTreeSet ℕ → Type 0
+WaitsMore test before after = (id : ℕ) → waits after id ≡ (test id || waits before id)
+
+-- the step of the greatest id in the set was found, and the id is taken out
+pub record IsTaken (steps : List ToldStep) (before after : BTreeSet ℕ) (s : ToldStep) : Type 0 where
+  -- it is one of the steps
+  pub stands : Contains steps s
+  -- its id was in the set
+  pub waited : IsTrue (waits before s.id)
+  -- and all others stay in it
+  pub others : (id : ℕ) → waits after id ≡ (not (nat_eq id s.id) && waits before id)
+  -- which are lower
+  pub lower : (id : ℕ) → IsTrue (waits after id) → id < s.id
+
+-- where nothing was told before, it is these steps afterwards
+abbrev pub TellsSteps : List ToldStep → Option Told → Option Told → Type 0
+TellsSteps steps before after = ForSome before (λ _. (u : Told) × (after ≡ Some u) × (u.steps ≡ steps) × (u.greatest ≡ last_id steps))

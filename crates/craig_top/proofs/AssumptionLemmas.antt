@@ -1,8 +1,8 @@
 -- Assumptions over dense variables, and as they were written.
-use Rattle.std.proofs.Common.{◌≡◌, ◌≢◌, ◌∙◌, sym, ap, subst, refl, ℕ, zero, suc, ◌+◌, ◌<◌, ◌≤◌, Bool, true, false, ◌||◌, nat_le, List, [], ◌∷◌, ◌++◌, length, map, take, get_or, slice_get, All, Contains, Some, ℤ, arith, leb-true, lt-ltb, inl, inr}
-use Rattle.std.proofs.Math.Bool.{or-false}
+use Rattle.std.proofs.Common.{◌≡◌, ◌≢◌, ◌∙◌, sym, ap, subst, refl, ℕ, zero, suc, ◌+◌, ◌<◌, ◌≤◌, Bool, true, false, ◌||◌, nat_le, List, [], ◌∷◌, ◌++◌, length, map, take, get_or, slice_get, All, Contains, Some, ℤ, arith, leb-true, lt-ltb, inl, inr, set, nat_eq, eqb-true, eq-eqb}
+use Rattle.std.proofs.Math.Bool.{or-false, or-true}
 use Rattle.std.proofs.lemmas.Bool.{and_from, and_parts}
-use Rattle.std.proofs.lemmas.List.{map-append, take_more}
+use Rattle.std.proofs.lemmas.List.{get_or-set_other, get_or-set_same, map-append, take_more}
 use Rattle.std.proofs.lemmas.List.Elements.{All-contains, Contains-get_or}
 use Rattle.std.proofs.lemmas.List.Folds.{list_any-append}
 use Rattle.std.proofs.lemmas.Option.{get_or_from_slice_get, same_Some}
@@ -201,6 +201,20 @@ noted-more assumptions i item old mid new within is before noted x =
     or-assoc : (a b c : Bool) → ((a || b) || c) ≡ (a || (b || c))
     or-assoc true b c = refl
     or-assoc false b c = refl
+
+-- one variable is noted
+pub noted-set : (named : List Bool) (l : Literal) (x : ℕ) → l.var < length named → get_or (set named l.var true) x false ≡ (get_or named x false || occurs_in_clause x (l ∷ []))
+noted-set named l x within =
+    elim (nat_eq x l.var) as (λ b. nat_eq x l.var ≡ b → get_or (set named l.var true) x false ≡ (get_or named x false || (b || false))) [
+      | true ↦ (λ here. let same : x ≡ l.var = eqb-true x l.var here in rw same (get_or-set_same named l.var true false within ∙ sym (or-true (get_or named l.var false))))
+      | false ↦ (λ here. get_or-set_other named l.var x true false (λ e. absurd (let no : nat_eq x l.var ≡ true = eq-eqb x l.var e in cc)) ∙ sym (or-false (get_or named x false)))
+    ] refl
+
+-- the variable of an assumption is one of so many
+pub assumed-below : (n : ℕ) (assumptions : Assumptions) (i : ℕ) (item : Part × Literal) → IsOver n (literals assumptions) → i < length assumptions → item ≡ get_or assumptions i item → item.1.var < n
+assumed-below n assumptions i item over within is =
+    let first : Part × Literal → Literal = λ a. a.1 in
+    subst (λ (a : Part × Literal). a.1.var < n) (sym is) (IsOver-contains n (literals assumptions) (get_or assumptions i item).1 over (Contains-image first assumptions (get_or assumptions i item) (Contains-get_or assumptions i item within)))
 
 -- clauses and units of so many variables
 pub over-assumed : (n : ℕ) (cs : List Clause) (assumptions : Assumptions) → AreOver n cs → IsOver n (literals assumptions) → AreOver n (cs ++ units assumptions)

@@ -71,7 +71,7 @@ unfolding IsDistinct
 IsDistinct-nil = tt
 
 module _ (names : List ℕ) (named values : List Bool) (cs : List Clause) (distinct : IsDistinct nat_eq names)
-    (named_is : (x : ℕ) → get_or named x false ≡ occurs x cs) (over : AreOver (length names) cs) where
+    (named_is : (x : ℕ) → x < length names → get_or named x false ≡ occurs x cs) (over : AreOver (length names) cs) where
   -- the literals have the variables that occur
   named_variables : (x : ℕ) → occurs_in_clause x (model_below names named values (length names)) ≡ occurs x (map (named_clause names) cs)
   named_variables x = list_any-model_below (λ l. nat_eq x l.var) names named values (length names) ∙ same_answer _ _ to from
@@ -80,13 +80,14 @@ module _ (names : List ℕ) (named values : List Bool) (cs : List Clause) (disti
       to h =
           let found : (k : ℕ) × (k < length names) × ((get_or named k false && nat_eq x (get_or names k 0)) ≡ true) = any_below-find _ _ h in
           let parts : (get_or named found.0 false ≡ true) × (nat_eq x (get_or names found.0 0) ≡ true) = and_parts _ _ found.2 in
-          let there : occurs (get_or names found.0 0) (map (named_clause names) cs) ≡ true = occurs-named names found.0 cs (sym (named_is found.0) ∙ parts.0) in
+          let there : occurs (get_or names found.0 0) (map (named_clause names) cs) ≡ true = occurs-named names found.0 cs (sym (named_is found.0 found.1) ∙ parts.0) in
           ap (λ y. occurs y (map (named_clause names) cs)) (eqb-true x (get_or names found.0 0) parts.1) ∙ there
 
       from : occurs x (map (named_clause names) cs) ≡ true → any_below (λ k. get_or named k false && nat_eq x (get_or names k 0)) (length names) ≡ true
       from h =
           let found : (k : ℕ) × (occurs k cs ≡ true) × (nat_eq x (get_or names k 0) ≡ true) = occurs-origin names x cs h in
-          any_below-some _ _ found.0 (occurs-below (length names) found.0 cs over found.1) (and_from _ _ (named_is found.0 ∙ found.1) found.2)
+          let below : found.0 < length names = occurs-below (length names) found.0 cs over found.1 in
+          any_below-some _ _ found.0 below (and_from _ _ (named_is found.0 below ∙ found.1) found.2)
 
   -- under the literals a named variable has the value of its dense one
   value_named : (literals : List Literal) → IsPermutation (model_below names named values (length names)) literals
@@ -94,7 +95,7 @@ module _ (names : List ℕ) (named values : List Bool) (cs : List Clause) (disti
   value_named literals permuted x h =
       let l : x < length names = occurs-below (length names) x cs over h in
       let y : ℕ = get_or names x 0 in
-      let here : (get_or named x false && (not (not (get_or values x false)) && nat_eq (get_or names x 0) (get_or names x 0))) ≡ get_or values x false = value_alone _ _ _ (named_is x ∙ h) (eq-eqb (get_or names x 0) (get_or names x 0) refl) in
+      let here : (get_or named x false && (not (not (get_or values x false)) && nat_eq (get_or names x 0) (get_or names x 0))) ≡ get_or values x false = value_alone _ _ _ (named_is x l ∙ h) (eq-eqb (get_or names x 0) (get_or names x 0) refl) in
       sym (variable_value-positives (get_or names x 0) literals
       ∙ sym (list_any-IsPermutation (λ m. not m.negated && nat_eq (get_or names x 0) m.var) _ literals permuted)
       ∙ list_any-model_below (λ m. not m.negated && nat_eq (get_or names x 0) m.var) names named values (length names)
@@ -126,3 +127,9 @@ module _ (names : List ℕ) (named values : List Bool) (cs : List Clause) (disti
         (IsDistinct-IsPermutation nat_eq eqb-sym _ _ (IsPermutation-map (λ (l : Literal). l.var) _ literals permuted) (distinct_names (length names) (omega arith)));
     satisfies = sym (agree-clauses names values (positives literals) cs (value_named literals permuted)) ∙ holds;
   }
+
+-- the variables that were noted or are assumed are those of the clauses and the units
+pub named-occurs : (count : ℕ) (named : List Bool) (noted : ℕ → Bool) (clauses assumed : List Clause) → ((x : ℕ) → x < count → get_or named x false ≡ (noted x || occurs x assumed)) → ((x : ℕ) → noted x ≡ occurs x clauses)
+    → (x : ℕ) → x < count → get_or named x false ≡ occurs x (clauses ++ assumed)
+named-occurs count named noted clauses assumed is has x below =
+    is x below ∙ ap (λ b. b || occurs x assumed) (has x) ∙ sym (list_any-append (occurs_in_clause x) clauses assumed)

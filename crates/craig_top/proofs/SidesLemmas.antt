@@ -1,5 +1,5 @@
 -- The sides of the accepted clauses, as clauses are noted.
-use Rattle.std.proofs.Common.{◌≡◌, ◌∙◌, sym, ap, subst, refl, ℕ, ◌+◌, ◌<◌, ◌≤◌, Bool, true, false, ◌&&◌, ◌||◌, cond, nat_eq, nat_le, List, [], ◌∷◌, ◌++◌, length, map, take, get_or, Contains, Option, Some, filter, arith, inl, inr}
+use Rattle.std.proofs.Common.{◌≡◌, ◌∙◌, sym, ap, subst, refl, ℕ, ◌+◌, ◌<◌, ◌≤◌, Bool, true, false, ◌&&◌, ◌||◌, cond, nat_eq, nat_le, List, [], ◌∷◌, ◌++◌, length, map, take, get_or, Contains, Option, Some, None, is_some, suc, filter, arith, inl, inr}
 use Rattle.std.proofs.Math.Bool.{or-false}
 use Rattle.std.specs.List.{list_any}
 use Rattle.std.proofs.lemmas.Bool.{or_right, or_cases, eqb-true, le-leb}
@@ -12,7 +12,7 @@ use Rattle.craig_spec.specs.Occurs.{occurs, occurs_in_clause}
 use Rattle.craig_base.specs.declared.script_part.Part.{Part}
 use Rattle.craig_itp.specs.Interpolants.{Spans}
 use Rattle.craig_itp.proofs.SpansLemmas.{spans_kept, spans_noted}
-use Rattle.craig_label.specs.Sides.{Range, SidesView, IsSides, IsNoted, range_of, widened, is_in_a, is_in_b, occurs_in_a, occurs_in_b}
+use Rattle.craig_label.specs.Sides.{Range, SidesView, IsRange, IsSides, IsNoted, range_of, widened, is_in_a, is_in_b, occurs_in_a, occurs_in_b}
 use Rattle.craig_top.specs.Sides.{AreSidesOf, NotesClause, parted}
 use Rattle.craig_label.proofs.RangeLemmas.{is_in_a-widened, is_in_b-widened, same_answer}
 use Rattle.craig_spec.proofs.MemberLemmas.{Contains-one}
@@ -90,6 +90,24 @@ occurs-within x test (b ∷ cs) = step (test b.part) _ (filter (λ (e : PartClau
   step : (t rest : Bool) (less : List PartClause) → occurs x (map (λ (e : PartClause). e.clause) less) ≡ rest → occurs x (map (λ (e : PartClause). e.clause) (cond t (b ∷ less) less)) ≡ (t && occurs_in_clause x b.clause || rest)
   step true rest less e = ap (λ r. occurs_in_clause x b.clause || r) e
   step false rest less e = e
+
+-- a range reaches side A of the last cut
+some_range : (parts : ℕ) (r : Option Range) → ((x : Range) → r ≡ Some x → IsRange parts x) → is_in_a parts r ≡ is_some r
+some_range parts None is = refl
+some_range parts (Some r) is = let range = is r refl in le-leb r.first parts (omega (arith, range.ordered, range.last))
+
+-- where all clauses are on side A, what they have is what the side has
+all_on_side_a : (cut x : ℕ) (accepted : List (Part × Clause)) → ((c : PartClause) → Contains (parted accepted) c → c.part ≤ cut)
+    → list_any (λ (c : PartClause). is_on_side_a cut c.part && occurs_in_clause x c.clause) (parted accepted) ≡ occurs x (map (λ (a : Part × Clause). a.1) accepted)
+all_on_side_a cut x [] parts = refl
+all_on_side_a cut x (a ∷ accepted) parts =
+    let low : a.0.0 ≤ cut = parts (record { part = a.0.0; clause = a.1 }) (0, omega arith, refl) in
+    rw (or_right (nat_eq a.0.0 0) (nat_le a.0.0 cut) (le-leb a.0.0 cut low), all_on_side_a cut x accepted (λ c here. parts c (suc here.0, omega (arith, here.1), here.2))) refl
+
+-- so the variables of the clauses are those that were noted
+pub noted-occurs : (accepted : List (Part × Clause)) (sides : SidesView) → AreSidesOf (parted accepted) sides → (x : ℕ) → is_some (range_of sides x) ≡ occurs x (map (λ (a : Part × Clause). a.1) accepted)
+noted-occurs accepted sides are x =
+    sym (some_range sides.parts (range_of sides x) (are.is_sides.ranges x)) ∙ are.in_a sides.parts x ∙ occurs-within x (is_on_side_a sides.parts) (parted accepted) ∙ all_on_side_a sides.parts x accepted are.parts
 
 -- the same with one clause more
 within-push : (x : ℕ) (test : ℕ → Bool) (cs : List PartClause) (c : PartClause) → occurs x (clauses_within test (cs ++ c ∷ [])) ≡ (occurs x (clauses_within test cs) || test c.part && occurs_in_clause x c.clause)

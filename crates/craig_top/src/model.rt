@@ -1,33 +1,43 @@
 //! The literals of a satisfiable reply, from the values of dense variables.
 
-ghost use Rattle.std.specs.Prelude.{◌≡◌, ℕ, ◌<◌, ◌≤◌, ◌++◌, ◌||◌, false, length, map, slice_index_or, IfOk, OnOk, vec_len, IsTrue};
+ghost use Rattle.std.specs.Prelude.{◌≡◌, ℕ, ◌<◌, ◌||◌, false, length, map, slice_index_or, is_some, IfOk, vec_len};
+ghost use Rattle.craig_label.specs.Sides.{range_of};
 ghost use Rattle.craig_spec.specs.Occurs.{occurs, occurs_in_clause};
-ghost use Rattle.craig_base.specs.Names.{AreNames};
 ghost use Rattle.craig_search.specs.Verdict.{units};
 ghost use Rattle.craig_top.specs.Naming.{model_below};
-ghost use Rattle.craig_top.specs.Values.{AreOver, IsOver};
+ghost use Rattle.craig_top.specs.Values.{IsOver};
 
-use craig_base::{Lit, Lits, Names, Part, Values, Var};
+use craig_base::{Lit, Names, Part, Values, Var};
+use craig_label::Sides;
 use std::alloc::{AllocError, Global};
 
-/// Which of the dense variables 0 to `count - 1` occur in a clause or an assumption.
+/// Which of the dense variables 0 to `count - 1` were noted in a part, or occur in an assumption. So the accepted clauses,
+/// whose variables are noted, aren't looked at again.
 pub fn named_variables(
     alloc: Global,
-    clauses: &[(Part, Lits)],
+    sides: &Sides,
     assumptions: &[(Part, Lit)],
-    count: usize,
+    count: u32,
 ) -> Result<Vec<bool>, AllocError>
-    requires clauses { AreOver count (map (λ c. c.1) clauses.now) }
-    requires assumptions { IsOver count (map (λ a. a.1) assumptions.now) }
+    requires { IsOver count (map (λ a. a.1) assumptions.now) }
     ensures len { IfOk result (λ named. vec_len named ≡ count) }
-    ensures named { IfOk result (λ named. (x : ℕ) → slice_index_or named.items x false ≡ occurs x (map (λ c. c.1) clauses.now ++ units assumptions.now)) }
+    ensures named { IfOk result (λ named. (x : ℕ) → x < count → slice_index_or named.items x false ≡ (is_some (range_of sides.now x) || occurs x (units assumptions.now))) }
 {
-    let mut named = vec![in alloc; false; count]?;
-    for clause in clauses {
-        note_variables(&mut named, clause.1.as_slice());
-    }
+    let mut named = noted_variables(alloc, sides, count)?;
     note_assumed(&mut named, assumptions);
     Ok(named)
+}
+
+/// Which of the dense variables 0 to `count - 1` were noted.
+fn noted_variables(alloc: Global, sides: &Sides, count: u32) -> Result<Vec<bool>, AllocError>
+    ensures len { IfOk result (λ noted. vec_len noted ≡ count) }
+    ensures noted { IfOk result (λ noted. (x : ℕ) → x < count → slice_index_or noted.items x false ≡ is_some (range_of sides.now x)) }
+{
+    let mut noted = Vec::new(alloc);
+    for place in 0..count {
+        noted.push(sides.range(Var(place)).is_some())?;
+    }
+    Ok(noted)
 }
 
 /// Notes the variables of assumptions.
@@ -36,17 +46,7 @@ fn note_assumed(named: &mut [bool], assumptions: &[(Part, Lit)])
     ensures { (x : ℕ) → slice_index_or named.new x false ≡ (slice_index_or named.old x false || occurs x (units assumptions.now)) }
 {
     for assumption in assumptions {
-        note_variables(named, &[assumption.1]);
-    }
-}
-
-/// Notes the variables of a clause.
-fn note_variables(named: &mut [bool], clause: &[Lit])
-    requires { IsOver (length named.old) clause.now }
-    ensures { (x : ℕ) → slice_index_or named.new x false ≡ (slice_index_or named.old x false || occurs_in_clause x clause.now) }
-{
-    for literal in clause {
-        named[literal.var().0 as usize] = true;
+        named[assumption.1.var().0 as usize] = true;
     }
 }
 

@@ -210,7 +210,7 @@ impl Stored {
             Answer::Model(values) => append_values(
                 self.alloc,
                 &self.names,
-                self.solver.accepted(),
+                &self.sides,
                 &assumptions,
                 values,
                 out,

@@ -14,7 +14,8 @@ use Rattle.craig_top.specs.LastRefutation.{IsSolveReplyBy}
 use Rattle.craig_top.specs.Naming.{named_assumptions, named_clause}
 use Rattle.craig_top.specs.Reply.{assumptions_of}
 use Rattle.craig_top.specs.RestsOn.{RestsOn}
-use Rattle.craig_top.specs.Sides.{with_assumed}
+use Rattle.std.proofs.lemmas.Result.{on_ok_weaker}
+use Rattle.craig_top.specs.Sides.{AreSidesOf, parted, with_assumed}
 use Rattle.craig_top.specs.Stored.{HaveNames, given_state, settings_of, stored_state}
 use Rattle.craig_top.specs.Values.{IsOver}
 use Rattle.craig_top.proofs.AssumptionLemmas.{NamesFailed-named, assuming-named, first_places-within, literals, over-at_places, parts-at_places, parts-within}
@@ -32,25 +33,14 @@ solve-requires-clause-known c =
     let reached = ap (λ (v : SolverView _). v.vars) c.in_ok-reach.ensures.reached in
     assumed-known (length c.dense_assumptions.new.names) c.reach.new.self.vars c.in_ok-assumptions.assumptions.items c.deref.result.now c.deref.ensures.value c.in_ok-assumptions.ensures.over (omega (arith, reached, c.len.ensures.value))
 
-pub append_values-requires-clause-over : goal.append_values-requires-clause-over
-append_values-requires-clause-over c =
-    let same = c.accepted.ensures.value ∙ c.in_ok-answer.ensures.accepted ∙ c.in_ok-reach.ensures.accepted in
-    subst (HaveNames c.dense_assumptions.new.names) (sym same) (HaveNames-grows c.args.self.now.names c.dense_assumptions.new.names c.args.self.now.solver.accepted c.in_ok-assumptions.ensures.grows c.requires.kept.together.stored)
-
 pub append_values-requires-clause-assumed : goal.append_values-requires-clause-assumed
 append_values-requires-clause-assumed c = subst (λ (xs : Assumptions). IsOver (length c.dense_assumptions.new.names) (literals xs)) (sym c.deref-in-Model.ensures.value) c.in_ok-assumptions.ensures.over
 
 pub append_values-requires-clause-values : goal.append_values-requires-clause-values
 append_values-requires-clause-values c =
-    (model-stored c.reach.new.self.accepted c.accepted.result.now c.deref.result.now c.deref-in-Model.result.now c.reach.new.self.vars c.args.self.now.solver.vars c.len.result (length c.dense_assumptions.new.names) c.in_ok-answer.answer c.in-Model.values
-    (c.accepted.ensures.value ∙ c.in_ok-answer.ensures.accepted) (c.deref.ensures.value ∙ sym c.deref-in-Model.ensures.value) (ap (λ (v : SolverView _). v.vars) c.in_ok-reach.ensures.reached) c.len.ensures.value
+    (model-stored c.reach.new.self.accepted c.reach.new.self.accepted c.deref.result.now c.deref-in-Model.result.now c.reach.new.self.vars c.args.self.now.solver.vars c.len.result (length c.dense_assumptions.new.names) c.in_ok-answer.answer c.in-Model.values
+    refl (c.deref.ensures.value ∙ sym c.deref-in-Model.ensures.value) (ap (λ (v : SolverView _). v.vars) c.in_ok-reach.ensures.reached) c.len.ensures.value
     (omega (arith, c.requires.kept.together.known, c.in_ok-assumptions.ensures.grows.longer)) c.in-Model.is c.in_ok-answer.ensures.solved.answer).0
-
-pub append_values-requires-clause-model : goal.append_values-requires-clause-model
-append_values-requires-clause-model c =
-    (model-stored c.reach.new.self.accepted c.accepted.result.now c.deref.result.now c.deref-in-Model.result.now c.reach.new.self.vars c.args.self.now.solver.vars c.len.result (length c.dense_assumptions.new.names) c.in_ok-answer.answer c.in-Model.values
-    (c.accepted.ensures.value ∙ c.in_ok-answer.ensures.accepted) (c.deref.ensures.value ∙ sym c.deref-in-Model.ensures.value) (ap (λ (v : SolverView _). v.vars) c.in_ok-reach.ensures.reached) c.len.ensures.value
-    (omega (arith, c.requires.kept.together.known, c.in_ok-assumptions.ensures.grows.longer)) c.in-Model.is c.in_ok-answer.ensures.solved.answer).1
 
 pub assumptions_at-requires : goal.assumptions_at-requires
 assumptions_at-requires c =
@@ -115,14 +105,21 @@ returns-in-Model-clause-kept c =
 pub returns-in-Model-clause-reply : goal.returns-in-Model-clause-reply
 returns-in-Model-clause-reply c =
     let names = c.dense_assumptions.new.names in
+    let accepted = c.solve.new.self.accepted in
     let settings = settings_of c.args.self.now.sides.parts c.args.self.now.choices in
-    let clauses = map (named_clause names) (map (λ (a : Part × Clause). a.1) c.accepted.result.now ++ units c.deref-in-Model.result.now) in
-    let same = c.accepted.ensures.value ∙ c.in_ok-answer.ensures.accepted ∙ c.in_ok-reach.ensures.accepted in
-    let state : stored_state settings names c.accepted.result.now ≡ given_state c.args.self.now =
-    stored_state-grown settings settings c.args.self.now.names names c.args.self.now.solver.accepted c.accepted.result.now refl c.in_ok-assumptions.ensures.grows c.requires.kept.together.stored same in
+    let clauses = map (named_clause names) (map (λ (a : Part × Clause). a.1) accepted ++ units c.deref-in-Model.result.now) in
+    let same = c.in_ok-answer.ensures.accepted ∙ c.in_ok-reach.ensures.accepted in
+    let state : stored_state settings names accepted ≡ given_state c.args.self.now =
+    stored_state-grown settings settings c.args.self.now.names names c.args.self.now.solver.accepted accepted refl c.in_ok-assumptions.ensures.grows c.requires.kept.together.stored same in
     let are : clauses ≡ bare_clauses (with_units (given_state c.args.self.now).accepted (assumptions_of c.args.pairs.now)) =
-    assuming-named settings names c.accepted.result.now c.deref-in-Model.result.now c.args.pairs.now (ap (named_assumptions names) c.deref-in-Model.ensures.value ∙ c.in_ok-assumptions.ensures.assumptions) ∙ ap (λ s. bare_clauses (with_units s.accepted (assumptions_of c.args.pairs.now))) state in
-    model-reply c.append_values.result (given_state c.args.self.now) names c.solve.new.self.tracer.told.steps c.solve.new.self.root clauses c.args.pairs.now _ _ are c.append_values.ensures.model
+    assuming-named settings names accepted c.deref-in-Model.result.now c.args.pairs.now (ap (named_assumptions names) c.deref-in-Model.ensures.value ∙ c.in_ok-assumptions.ensures.assumptions) ∙ ap (λ s. bare_clauses (with_units s.accepted (assumptions_of c.args.pairs.now))) state in
+    let over : HaveNames names accepted = subst (HaveNames names) (sym same) (HaveNames-grows c.args.self.now.names names c.args.self.now.solver.accepted c.in_ok-assumptions.ensures.grows c.requires.kept.together.stored) in
+    let sides : AreSidesOf (parted accepted) c.args.self.now.sides = subst (λ (cs : List (Part × Clause)). AreSidesOf (parted cs) c.args.self.now.sides) (sym same) c.requires.kept.together.sides_are in
+    let model =
+    (model-stored c.reach.new.self.accepted accepted c.deref.result.now c.deref-in-Model.result.now c.reach.new.self.vars c.args.self.now.solver.vars c.len.result (length names) c.in_ok-answer.answer c.in-Model.values
+    c.in_ok-answer.ensures.accepted (c.deref.ensures.value ∙ sym c.deref-in-Model.ensures.value) (ap (λ (v : SolverView _). v.vars) c.in_ok-reach.ensures.reached) c.len.ensures.value
+    (omega (arith, c.requires.kept.together.known, c.in_ok-assumptions.ensures.grows.longer)) c.in-Model.is c.in_ok-answer.ensures.solved.answer).1 in
+    model-reply c.append_values.result (given_state c.args.self.now) names c.solve.new.self.tracer.told.steps c.solve.new.self.root clauses c.args.pairs.now _ _ are (on_ok_weaker c.append_values.result (λ appends. appends accepted sides over model) c.append_values.ensures.model)
 
 pub returns-in-Failed-clause-reply : goal.returns-in-Failed-clause-reply
 returns-in-Failed-clause-reply c =

@@ -18,12 +18,13 @@ use Rattle.craig_analyze.specs.declared.learnt.Learnt.{Learnt}
 use Rattle.craig_analyze.specs.declared.staying.Staying.TheVariants.{Decisions}
 use Rattle.craig_analyze.specs.Decision.{IsDecision}
 use Rattle.craig_analyze.specs.Core.{IsCoreClause}
-use Rattle.craig_analyze.specs.Resolvent.{ResolventView, at_place, negated_at, resolvent_of, bound_of, Stays, HasBegunReason, HasForced, Leads, AreApart}
+use Rattle.craig_proof.specs.NeededSteps.{bound_of}
+use Rattle.craig_analyze.specs.Resolvent.{ResolventView, at_place, negated_at, resolvent_of, Stays, HasBegunReason, HasForced, Leads, AreApart}
 use Rattle.craig_analyze.proofs.PlaceLemmas.{place-false, true-not_false, false-within, same_negated, level_at-place, entry_of-place, false-not_both}
 use Rattle.craig_analyze.proofs.LevelLemmas.{level-le, reason_of-cases}
 use Rattle.craig_analyze.proofs.ResolventLemmas.{has-lower}
 use Rattle.craig_analyze.proofs.WalkLemmas.{no-reason}
-use Rattle.craig_analyze.proofs.LoopLemmas.{bound_of-le}
+use Rattle.craig_proof.proofs.FindingLemmas.{bound_of-le}
 use Rattle.craig_analyze.proofs.LearntLemmas.{apart-cons}
 use Rattle.craig_analyze.proofs.ForcingLemmas.{false-higher}
 

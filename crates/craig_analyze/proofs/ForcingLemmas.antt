@@ -12,13 +12,15 @@ use Rattle.craig_watch.specs.Trail.{Trail, entry_of, IsAssigned, IsFalse, AreDis
 use Rattle.craig_watch.specs.Held.{HeldView, held_clause, IsConsistent}
 use Rattle.craig_analyze.specs.declared.staying.Staying.TheVariants.{Decisions}
 use Rattle.craig_analyze.specs.Marks.{IsMarked}
-use Rattle.craig_analyze.specs.Resolvent.{ResolventView, at_place, negated_at, resolvent_of, bound_of, IsUnresolved, Meets, HasMet, IsGreatestTaken, IsResolvable, HasResolved, HasBegunReason, HasForced, IsForcing}
+use Rattle.craig_proof.specs.NeededSteps.{bound_of}
+use Rattle.craig_analyze.specs.Resolvent.{ResolventView, at_place, negated_at, resolvent_of, IsUnresolved, Meets, HasMet, IsGreatestTaken, IsResolvable, HasResolved, HasBegunReason, HasForced, IsForcing}
 use Rattle.craig_analyze.proofs.PlaceLemmas.{false-place, false-within, within-false, same_place, entry_of-place}
 use Rattle.craig_analyze.proofs.LevelLemmas.{reason_of-cases}
 use Rattle.craig_analyze.proofs.ChainLemmas.{IsChain-same}
 use Rattle.craig_analyze.proofs.HeldClauseLemmas.{held-live, no_member}
 use Rattle.craig_analyze.proofs.WalkLemmas.{IsGreatestTaken-taken, reason-held, reason-assigned, reason-may_be_met}
-use Rattle.craig_analyze.proofs.LoopLemmas.{bound_of-le, bound_of-above, SameLiterals-behind}
+use Rattle.craig_proof.proofs.FindingLemmas.{bound_of-le, bound_of-above}
+use Rattle.craig_analyze.proofs.LoopLemmas.{SameLiterals-behind}
 
 -- one variable is marked, and no literal is there
 abbrev pub only : ℕ → ResolventView

@@ -1,6 +1,6 @@
 -- The two loops of the walk: to the asserting literal, and then through what is of level 0.
 use Rattle.std.proofs.Common.{◌≡◌, ◌≢◌, inl, inr, ℕ, ◌<◌, ◌≤◌, List, [], ◌∷◌, ◌++◌, length, get_or, take, All, Contains, sym, ap, subst, ◌∙◌, arith}
-use Rattle.std.proofs.lemmas.List.Elements.{All-head, All-tail, All-contains, All-nil, All-weaker, Contains-append_left, Contains-append_right, Contains-append_cases}
+use Rattle.std.proofs.lemmas.List.Elements.{All-contains, All-nil, All-weaker, Contains-append_left, Contains-append_right, Contains-append_cases}
 use Rattle.std.proofs.lemmas.List.Sorted.{Contains-permutation}
 use Rattle.craig_spec.specs.Literal.{Literal, Clause, negation}
 use Rattle.craig_spec.specs.Chain.{ChainStep, SameLiterals, IsChain}
@@ -8,25 +8,14 @@ use Rattle.craig_spec.proofs.MemberLemmas.{Contains-cases}
 use Rattle.craig_watch.specs.Trail.{IsFalse, level_at}
 use Rattle.craig_watch.specs.Held.{HeldView, held_clause, IsConsistent}
 use Rattle.craig_analyze.specs.declared.staying.Staying.TheVariants.{InnerLevels}
-use Rattle.craig_analyze.specs.Resolvent.{ResolventView, at_place, negated_at, resolvent_of, bound_of, IsEndLevel, IsUnresolved, IsGreatestTaken, IsResolvable, HasPresent, HasResolved, HasFound, HasEnded, IsWalking, IsEnding, AreApart}
+use Rattle.craig_proof.specs.NeededSteps.{bound_of}
+use Rattle.craig_analyze.specs.Resolvent.{ResolventView, at_place, negated_at, resolvent_of, IsEndLevel, IsUnresolved, IsGreatestTaken, IsResolvable, HasPresent, HasResolved, HasFound, HasEnded, IsWalking, IsEnding, AreApart}
+use Rattle.craig_proof.proofs.FindingLemmas.{bound_of-above, bound_of-le}
 use Rattle.craig_analyze.proofs.PlaceLemmas.{same_negated, level_at-place}
 use Rattle.craig_analyze.proofs.LevelLemmas.{level-le, reason-first}
 use Rattle.craig_analyze.proofs.ChainLemmas.{IsChain-same}
 use Rattle.craig_analyze.proofs.ResolventLemmas.{has-pending, has-cases}
 use Rattle.craig_analyze.proofs.WalkLemmas.{Taken, IsGreatestTaken-taken, not-before}
-
--- the bound of a list
-pub bound_of-le : (ns : List ℕ) (b : ℕ) → All (λ n. n < b) ns → bound_of ns ≤ b
-bound_of-le [] b h = omega arith
-bound_of-le (n ∷ ns) b h =
-    let first : n < b = All-head (λ k. k < b) n ns h in
-    let rest : bound_of ns ≤ b = bound_of-le ns b (All-tail (λ k. k < b) n ns h) in
-    omega arith
-
-pub bound_of-above : (ns : List ℕ) (n : ℕ) → Contains ns n → n < bound_of ns
-bound_of-above [] n (k, within, is) = absurd (let no : k < 0 = within in omega arith)
-bound_of-above (m ∷ ns) n h =
-    elim (Contains-cases m ns n h) [ inl is ↦ (let e : m ≡ n = is in omega arith) | inr rest ↦ (let low : n < bound_of ns = bound_of-above ns n rest in omega arith) ]
 
 -- no place that is taken out is above the greatest
 taken-le : (place p : ℕ) (old new : ResolventView) → IsGreatestTaken place old new → Contains old.pending p → p ≤ place

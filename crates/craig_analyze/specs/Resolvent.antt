@@ -1,10 +1,11 @@
 -- The resolvent in the course of conflict analysis.
-use Rattle.std.specs.Prelude.{◌≡◌, ◌≢◌, ◌⊎◌, ◌↔◌, ℕ, ◌<◌, ◌≤◌, List, [], ◌∷◌, ◌++◌, Some, IsSome, length, map, max, suc, take, All, AllPairs, Contains, slice_index_or}
+use Rattle.std.specs.Prelude.{◌≡◌, ◌≢◌, ◌⊎◌, ◌↔◌, ℕ, ◌<◌, ◌≤◌, List, [], ◌∷◌, ◌++◌, Some, IsSome, length, map, take, All, AllPairs, Contains, slice_index_or}
 use Rattle.std.specs.List.Sorted.{IsPermutation}
 use Rattle.std.specs.BinaryHeap.{heap_items}
 use Rattle.craig_spec.specs.Literal.{Literal, Clause, negation}
 use Rattle.craig_spec.specs.Chain.{ChainStep, SameLiterals, IsChain}
 use Rattle.craig_base.specs.Counting.{NoneMoreThan}
+use Rattle.craig_proof.specs.NeededSteps.{bound_of}
 use Rattle.craig_watch.specs.declared.trail_entry.TrailEntry.{TrailEntry}
 use Rattle.craig_watch.specs.Trail.{Trail, any_entry, IsFalse, level_at}
 use Rattle.craig_watch.specs.Held.{HeldView, held_clause}
@@ -37,11 +38,6 @@ negated_at t p = negation (at_place t p).literal
 -- the resolvent as a clause
 abbrev pub resolvent_of : Trail → ResolventView → Clause
 resolvent_of t s = map (negated_at t) s.pending ++ s.lower
-
--- a number above all of the list
-abbrev pub bound_of : List ℕ → ℕ
-bound_of [] = 0
-bound_of (n ∷ ns) = max (suc n) (bound_of ns)
 
 -- the level is 0 or the present one
 abbrev pub IsEndLevel : HeldView → ℕ → Type 0

@@ -1,11 +1,12 @@
 -- The steps that a root needs, and the set of ids by which they are found.
-use Rattle.std.proofs.Common.{◌≡◌, ℕ, suc, zero, ◌+◌, ◌<◌, ◌≤◌, Bool, true, false, cond, not, ◌||◌, ◌&&◌, eqb, List, [], ◌∷◌, length, get_or, take, map, All, Contains, Some, length-take, refl, ap, sym, ◌∙◌, arith, eqb-true, ne_eqb, eq-eqb, ◌⊎◌, inl, inr, is_eq, is_lt, max}
+use Rattle.std.proofs.Common.{◌≡◌, ℕ, suc, zero, ◌+◌, ◌<◌, ◌≤◌, Bool, true, false, cond, not, ◌||◌, ◌&&◌, eqb, List, [], ◌∷◌, length, get_or, take, map, All, Contains, Some, length-take, refl, ap, sym, ◌∙◌, arith, eqb-true, ne_eqb, eq-eqb, ◌⊎◌, inl, inr, is_eq, is_lt}
 use native.Mathlib.Decide.{dec_lt}
 use Rattle.std.specs.List.{filter, list_any}
 use Rattle.std.specs.BTreeSet.{BTreeSet, Updates, IsUpperBound}
 use Rattle.std.specs.Ordering.{nat_cmp}
 use Rattle.std.proofs.lemmas.Bool.{eqb-false, or_left, or_right, and_parts}
 use Rattle.std.proofs.lemmas.Bool.Decides.{nat_tests}
+use Rattle.std.proofs.lemmas.List.Elements.{All-head, All-tail}
 use Rattle.std.proofs.lemmas.List.{get_or_default, get_or-take}
 use Rattle.std.proofs.Math.Bool.{or-true, or-false}
 use Rattle.craig_spec.proofs.MemberLemmas.{Contains-cases, list_any-find}
@@ -14,7 +15,7 @@ use Rattle.craig_spec.proofs.ToldLemmas.{StandsOn-given}
 use Rattle.craig_spec.specs.Literal.{Clause}
 use Rattle.craig_spec.specs.Chain.{ChainStep, ToldStep, Told, antecedents, clause_told, IsChain, EachStands, AreRising, IsTold}
 use Rattle.craig_spec.specs.Needed.{IsClosed, IsNeeded, IsNeededPart, unforgotten}
-use Rattle.craig_proof.specs.NeededSteps.{HasId, IsTaken, WaitsMore, waits}
+use Rattle.craig_proof.specs.NeededSteps.{bound_of, HasId, IsTaken, WaitsMore, waits}
 use Rattle.craig_proof.specs.Tracer.{chain_of}
 use Rattle.craig_proof.specs.declared.step.Step.{Step}
 use Rattle.craig_proof.proofs.ToldLemmas.{HasId-at}
@@ -196,12 +197,12 @@ member-was_found : (found : List ToldStep) (x : ℕ) → was_found found x ≡ t
 member-was_found [] x h = absurd (cc)
 member-was_found (r ∷ found) x h = found-cases r found x (eqb r.id x) refl h (member-was_found found x)
 
-bool_false : (b : Bool) → (b ≡ true → ⊥) → b ≡ false
-bool_false true never = absurd (never refl)
-bool_false false never = refl
+pub false_unless : (b : Bool) → (b ≡ true → ⊥) → b ≡ false
+false_unless true never = absurd (never refl)
+false_unless false never = refl
 
 not_found : (found : List ToldStep) (s : ToldStep) (x : ℕ) → ((r : ToldStep) → Contains found r → s.id < r.id) → x ≤ s.id → was_found found x ≡ false
-not_found found s x below le = bool_false (was_found found x) (λ h. let w = member-was_found found x h in let up : s.id < (w.0).id = below w.0 w.1 in let is : (w.0).id ≡ x = w.2 in omega arith)
+not_found found s x below le = false_unless (was_found found x) (λ h. let w = member-was_found found x h in let up : s.id < (w.0).id = below w.0 w.1 in let is : (w.0).id ≡ x = w.2 in omega arith)
 
 filter-same : (p q : ToldStep → Bool) (steps : List ToldStep) → ((s : ToldStep) → Contains steps s → p s ≡ q s) → filter p steps ≡ filter q steps
 filter-same p q [] h = refl
@@ -416,27 +417,18 @@ IsTaken-last steps before after id s updates upper waited stands is =
           rw is (cmp_lower id x (upper x p.1) (rw is at p.0));
     }
 
--- how far up the ids in a set go
-abbrev pub bound_of : List ℕ → ℕ
-bound_of [] = 0
-bound_of (k ∷ ks) = max (suc k) (bound_of ks)
-
--- the greatest member is below the bound
-bound_of-member : (ks : List ℕ) (x : ℕ) → Contains ks x → x < bound_of ks
-bound_of-member [] x here = absurd (let no : here.0 < 0 = here.1 in omega arith)
-bound_of-member (k ∷ ks) x here =
-    elim (Contains-cases k ks x here) [
-      | inl same ↦ (let e : k ≡ x = same in omega arith)
-      | inr later ↦ (let low : x < bound_of ks = bound_of-member ks x later in omega arith)
-    ]
-
--- and the bound is at most one that is above all
-bound_of-le : (ks : List ℕ) (b : ℕ) → ((x : ℕ) → Contains ks x → x < b) → bound_of ks ≤ b
-bound_of-le [] b all = omega arith
-bound_of-le (k ∷ ks) b all =
-    let first : k < b = all k (0, omega arith, refl) in
-    let rest : bound_of ks ≤ b = bound_of-le ks b (λ x here. all x (suc here.0, omega (arith, here.1), here.2)) in
+-- the bound of a list
+pub bound_of-le : (ns : List ℕ) (b : ℕ) → All (λ n. n < b) ns → bound_of ns ≤ b
+bound_of-le [] b h = omega arith
+bound_of-le (n ∷ ns) b h =
+    let first : n < b = All-head (λ k. k < b) n ns h in
+    let rest : bound_of ns ≤ b = bound_of-le ns b (All-tail (λ k. k < b) n ns h) in
     omega arith
+
+pub bound_of-above : (ns : List ℕ) (n : ℕ) → Contains ns n → n < bound_of ns
+bound_of-above [] n (k, within, is) = absurd (let no : k < 0 = within in omega arith)
+bound_of-above (m ∷ ns) n h =
+    elim (Contains-cases m ns n h) [ inl is ↦ (let e : m ≡ n = is in omega arith) | inr rest ↦ (let low : n < bound_of ns = bound_of-above ns n rest in omega arith) ]
 
 pub waits-member : (set : BTreeSet ℕ) (x : ℕ) → Contains set.keys x → waits set x ≡ true
 waits-member set x here = passes-member (λ k. is_eq (nat_cmp x k)) set.keys x here (cmp_same x x ∙ eq-eqb x x refl)
@@ -450,6 +442,6 @@ member-waits set x h =
 -- the set reaches less far when its greatest id is out and lower ones are in
 pub bound_falls : (before after : BTreeSet ℕ) (id : ℕ) → waits before id ≡ true → ((x : ℕ) → waits after x ≡ true → x < id) → bound_of after.keys < bound_of before.keys
 bound_falls before after id waited lower =
-    let high : id < bound_of before.keys = bound_of-member before.keys id (member-waits before id waited) in
-    let low : bound_of after.keys ≤ id = bound_of-le after.keys id (λ x here. lower x (waits-member after x here)) in
+    let high : id < bound_of before.keys = bound_of-above before.keys id (member-waits before id waited) in
+    let low : bound_of after.keys ≤ id = bound_of-le after.keys id (λ k d within. let x : ℕ = get_or after.keys k d in lower x (waits-member after x (k, within, get_or_default after.keys k x d within))) in
     omega arith

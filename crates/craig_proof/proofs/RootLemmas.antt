@@ -7,7 +7,7 @@ use Rattle.craig_spec.specs.Chain.{ToldStep, antecedents, IsUnforgotten, EachSta
 use Rattle.craig_spec.specs.Needed.{IsNeeded, unforgotten}
 use Rattle.craig_proof.specs.NeededSteps.{last_id}
 use Rattle.craig_proof.proofs.ToldLemmas.{unforgotten_place}
-use Rattle.craig_proof.proofs.FindingLemmas.{antecedent_before}
+use Rattle.craig_proof.proofs.FindingLemmas.{antecedent_before, false_unless}
 use Rattle.craig_proof.proofs.ReplayLemmas.{part}
 
 below_ltb : (x y : ℕ) → x < y → ltb x y ≡ true
@@ -15,10 +15,6 @@ below_ltb x y h = grind (arith, nat_tests)
 
 ltb_below : (x y : ℕ) → ltb x y ≡ true → x < y
 ltb_below x y h = grind (arith, nat_tests)
-
-false_unless : (b : Bool) → (b ≡ true → ⊥) → b ≡ false
-false_unless true never = absurd (never refl)
-false_unless false never = refl
 
 -- an antecedent's id is below that of its step
 antecedent_below : (steps : List ToldStep) (s : ToldStep) (x : ℕ) → AreRising steps → EachStands steps → Contains steps s → Contains (antecedents s.origin) x → x < s.id

@@ -1,5 +1,5 @@
 -- The steps that a root needs, as they are found.
-use Rattle.std.specs.Prelude.{◌≡◌, ◌<◌, ◌||◌, ◌&&◌, ℕ, Bool, not, List, [], ◌∷◌, Option, Some, None, Contains, IsTrue, nat_eq}
+use Rattle.std.specs.Prelude.{◌≡◌, max, suc, ◌<◌, ◌||◌, ◌&&◌, ℕ, Bool, not, List, [], ◌∷◌, Option, Some, None, Contains, IsTrue, nat_eq}
 use Rattle.std.specs.BTreeSet.{BTreeSet, contains}
 use Rattle.std.specs.List.{list_any}
 use Rattle.std.specs.Option.{ForSome}
@@ -34,6 +34,11 @@ pub record IsTaken (steps : List ToldStep) (before after : BTreeSet ℕ) (s : To
   pub others : (id : ℕ) → waits after id ≡ (not (nat_eq id s.id) && waits before id)
   -- which are lower
   pub lower : (id : ℕ) → IsTrue (waits after id) → id < s.id
+
+-- a number above all of the list
+abbrev pub bound_of : List ℕ → ℕ
+bound_of [] = 0
+bound_of (n ∷ ns) = max (suc n) (bound_of ns)
 
 -- where nothing was told before, it is these steps afterwards
 abbrev pub TellsSteps : List ToldStep → Option Told → Option Told → Type 0

@@ -1,7 +1,10 @@
 -- Clauses under a list of truth values, the value of variable `i` at place `i`.
-use Rattle.std.specs.Prelude.{ℕ, Bool, false, not, List, IsTrue, nat_lt, slice_index_or, if◌then◌else◌}
+use Rattle.std.specs.Prelude.{◌≡◌, ◌<◌, ◌||◌, is_some, ℕ, Bool, false, not, List, IsTrue, nat_lt, slice_index_or, if◌then◌else◌}
 use Rattle.std.specs.List.{list_any, list_all}
 use Rattle.craig_spec.specs.Literal.{Literal, Clause}
+use Rattle.craig_spec.specs.Occurs.{occurs}
+use Rattle.craig_label.specs.Sides.{SidesView, range_of}
+use Rattle.craig_search.specs.Verdict.{Assumptions, units}
 
 -- whether the literal is true; a variable that has no value counts as false
 abbrev pub value_at : List Bool → Literal → Bool
@@ -18,3 +21,7 @@ IsOver n c = IsTrue (list_all (λ l. nat_lt l.var n) c)
 -- every variable of the clauses is below n
 abbrev pub AreOver : ℕ → List Clause → Type 0
 AreOver n cs = IsTrue (list_all (λ c. list_all (λ l. nat_lt l.var n) c) cs)
+
+-- below the count the flag of a dense variable says whether it was noted or is assumed
+abbrev pub AreNamedFlags : SidesView → Assumptions → ℕ → List Bool → Type 0
+AreNamedFlags sides assumptions count flags = (x : ℕ) → x < count → slice_index_or flags x false ≡ (is_some (range_of sides x) || occurs x (units assumptions))

@@ -5,7 +5,7 @@ ghost use Rattle.craig_label.specs.Sides.{range_of};
 ghost use Rattle.craig_spec.specs.Occurs.{occurs, occurs_in_clause};
 ghost use Rattle.craig_search.specs.Verdict.{units};
 ghost use Rattle.craig_top.specs.Naming.{model_below};
-ghost use Rattle.craig_top.specs.Values.{IsOver};
+ghost use Rattle.craig_top.specs.Values.{AreNamedFlags, IsOver};
 
 use craig_base::{Lit, Names, Part, Values, Var};
 use craig_label::Sides;
@@ -21,7 +21,7 @@ pub fn named_variables(
 ) -> Result<Vec<bool>, AllocError>
     requires { IsOver count (map (λ a. a.1) assumptions.now) }
     ensures len { IfOk result (λ named. vec_len named ≡ count) }
-    ensures named { IfOk result (λ named. (x : ℕ) → x < count → slice_index_or named.items x false ≡ (is_some (range_of sides.now x) || occurs x (units assumptions.now))) }
+    ensures named { IfOk result (λ named. AreNamedFlags sides.now assumptions.now count named.items) }
 {
     let mut named = noted_variables(alloc, sides, count)?;
     note_assumed(&mut named, assumptions);

@@ -1,6 +1,7 @@
 use Rattle.std.proofs.Common.{map, reverse}
 use Rattle.craig_proof.specs.StoredSteps.{step_of}
-use Rattle.craig_proof.proofs.FindingLemmas.{IsFinding, bound_of}
+use Rattle.craig_proof.specs.NeededSteps.{bound_of}
+use Rattle.craig_proof.proofs.FindingLemmas.{IsFinding}
 use Rattle.craig_proof.proofs.finding.needed_steps.Given as goal
 
 -- what was found stands from the last step to the first

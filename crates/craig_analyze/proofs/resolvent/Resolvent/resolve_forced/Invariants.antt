@@ -1,6 +1,7 @@
 use Rattle.std.proofs.Common.{heap_items}
 use Rattle.craig_proof.specs.Tracer.{chain_of}
-use Rattle.craig_analyze.specs.Resolvent.{IsForcing, bound_of, view_of}
+use Rattle.craig_proof.specs.NeededSteps.{bound_of}
+use Rattle.craig_analyze.specs.Resolvent.{IsForcing, view_of}
 use Rattle.craig_analyze.proofs.resolvent.Resolvent.resolve_forced.Given as goal
 
 -- the chain leads to what is pending and to the literals that stay

@@ -1,6 +1,6 @@
 -- How long a list of small numbers can be in which none stands too often.
-use Rattle.std.proofs.Common.{◌≡◌, ℕ, suc, zero, ◌+◌, ◌*◌, ◌<◌, ◌≤◌, Bool, true, false, cond, not, eqb, List, [], ◌∷◌, length, All, refl, arith, eqb-true, mul-suc, zero-add}
-use Rattle.std.proofs.lemmas.Bool.{eqb-false}
+use Rattle.std.proofs.Common.{◌≡◌, ◌≢◌, inl, inr, ℕ, suc, zero, ◌+◌, ◌*◌, ◌<◌, ◌≤◌, Bool, true, false, cond, not, eqb, List, [], ◌∷◌, length, get_or, All, refl, sym, arith, eqb-true, mul-suc, zero-add}
+use Rattle.std.proofs.lemmas.Bool.{cases_eq, eqb-false}
 use Rattle.std.specs.List.{filter, IsDistinct, AllByRecursion}
 use Rattle.std.proofs.lemmas.List.Elements.{All-head, All-tail, All-cons, All-nil}
 use Rattle.std.proofs.lemmas.List.Filters.{length-filter_both}
@@ -56,3 +56,48 @@ NoneMoreThan-IsDistinct (y ∷ xs) h = λ x.
     let rest : count_of x xs ≤ 1 = NoneMoreThan-IsDistinct xs (IsDistinct-tail eqb y xs h) x in
     let gone : count_of y xs ≡ 0 = count_of-absent y xs (IsDistinct-head eqb y xs h) in
     rw (count_of-cons x y xs) (grind (arith, eqb-true))
+
+-- what one member counts
+count-one : (b : Bool) → cond {A = ℕ} b 1 0 ≤ 1
+count-one true = omega arith
+count-one false = omega arith
+
+count-other : (b : Bool) (x y : ℕ) → eqb x y ≡ b → y ≢ x → cond {A = ℕ} b 1 0 ≡ 0
+count-other true x y is other = absurd (other (sym (eqb-true x y is)))
+count-other false x y is other = refl
+
+-- a number that stands at no place
+count_of-nowhere : (x : ℕ) (xs : List ℕ) → ((k : ℕ) → k < length xs → get_or xs k 0 ≢ x) → count_of x xs ≡ 0
+count_of-nowhere x [] none = refl
+count_of-nowhere x (y ∷ xs) none =
+    let here : cond {A = ℕ} (eqb x y) 1 0 ≡ 0 = count-other (eqb x y) x y refl (none 0 (omega arith)) in
+    let rest : count_of x xs ≡ 0 = count_of-nowhere x xs (λ k within. none (suc k) (omega (arith, within))) in
+    rw (count_of-cons x y xs) (omega arith)
+
+-- at no two places
+count_of-once : (x : ℕ) (xs : List ℕ) → ((j k : ℕ) → j < k → k < length xs → get_or xs j 0 ≡ x → get_or xs k 0 ≢ x) → count_of x xs ≤ 1
+count_of-once x [] once = omega arith
+count_of-once x (y ∷ xs) once = elim (cases_eq y x) [
+  | inl same ↦
+      let here : cond {A = ℕ} (eqb x y) 1 0 ≤ 1 = count-one (eqb x y) in
+      let rest : count_of x xs ≡ 0 = count_of-nowhere x xs (λ k within. once 0 (suc k) (omega arith) (omega (arith, within)) same) in
+      rw (count_of-cons x y xs) (omega arith)
+  | inr other ↦
+      let here : cond {A = ℕ} (eqb x y) 1 0 ≡ 0 = count-other (eqb x y) x y refl other in
+      let rest : count_of x xs ≤ 1 = count_of-once x xs (λ j k before within. once (suc j) (suc k) (omega (arith, before)) (omega (arith, within))) in
+      rw (count_of-cons x y xs) (omega arith)
+]
+
+-- at no three places
+pub count_of-twice : (x : ℕ) (xs : List ℕ) → ((i j k : ℕ) → i < j → j < k → k < length xs → get_or xs i 0 ≡ x → get_or xs j 0 ≡ x → get_or xs k 0 ≢ x) → count_of x xs ≤ 2
+count_of-twice x [] twice = omega arith
+count_of-twice x (y ∷ xs) twice = elim (cases_eq y x) [
+  | inl same ↦
+      let here : cond {A = ℕ} (eqb x y) 1 0 ≤ 1 = count-one (eqb x y) in
+      let rest : count_of x xs ≤ 1 = count_of-once x xs (λ j k before within. twice 0 (suc j) (suc k) (omega arith) (omega (arith, before)) (omega (arith, within)) same) in
+      rw (count_of-cons x y xs) (omega arith)
+  | inr other ↦
+      let here : cond {A = ℕ} (eqb x y) 1 0 ≡ 0 = count-other (eqb x y) x y refl other in
+      let rest : count_of x xs ≤ 2 = count_of-twice x xs (λ i j k before later within. twice (suc i) (suc j) (suc k) (omega (arith, before)) (omega (arith, later)) (omega (arith, within))) in
+      rw (count_of-cons x y xs) (omega arith)
+]

@@ -6,7 +6,7 @@ ghost use Rattle.craig_spec.specs.Truth.{variable_value};
 ghost use Rattle.craig_base.specs.Values.{assignment_of_values};
 ghost use Rattle.craig_base.specs.Arena.{ArenaView, FlaggedClause, IsArena, IsLive, OnlyReorders, clauses_of, literals_at, literals_of, with_clause};
 ghost use Rattle.craig_base.specs.LawsOfArenas.{FoundClausesAreListed, OneClauseChanges, ModelsMakeFoundClausesTrue, ModelsFromFoundClauses};
-ghost use Rattle.craig_base.specs.LawsOfClauses.{NormalClausesAreFew};
+ghost use Rattle.craig_base.specs.LawsOfClauses.{ClausesAreFew, LemmasAreFew, RepeatedClausesAreFew};
 
 /// An id under which a clause is live was given, so nothing is live under the next one.
 pub fn live_ids_were_given()
@@ -44,10 +44,13 @@ pub fn reordered_clauses()
     ensures before { (a b : ArenaView) → OnlyReorders a b → (id : ℕ) → GivesSame (literals_of b) (literals_of a) id }
 {}
 
-/// No longer list: there are at most `3^v` normal clauses over `v` variables, and so many clauses stand in a list in
-/// which no two have the same literals.
+/// No longer list: over `v` variables there are at most `3^v` clauses that are no tautologies and of which no two have
+/// the same literals. So many stand in a list in which no two do, and at most twice as many in one in which no three do.
+/// A list that meets the lemma rule is such a list over the variables of its clauses, however these are numbered.
 pub fn no_longer_list()
-    ensures { NormalClausesAreFew }
+    ensures once { ClausesAreFew }
+    ensures twice { RepeatedClausesAreFew }
+    ensures lemmas { LemmasAreFew }
 {}
 
 /// A variable is true under the assignment of a list of values where its value is, and false where it has none.

@@ -6,7 +6,8 @@ use Rattle.std.proofs.lemmas.List.FromFn.{length-map-range_with_len, get_or-map-
 use Rattle.std.proofs.lemmas.Bool.{cases_eq}
 use Rattle.craig_spec.specs.Literal.{Literal, Clause}
 use Rattle.craig_spec.specs.Chain.{SameLiterals}
-use Rattle.craig_base.specs.Clauses.{IsNormal}
+use Rattle.craig_base.specs.Clauses.{IsTautology}
+use Rattle.craig_base.specs.LawsOfClauses.{AreClausesOver, ClausesAreFew}
 use Rattle.craig_base.specs.Arena.{ArenaView, FlaggedClause, IsArena, ChangesOnly, OnlyReorders, clause_at, literals_at, literals_of}
 use Rattle.craig_base.specs.LemmaRule.{ContainsClause}
 use Rattle.craig_watch.specs.Held.{HeldView, IsConsistent, held_clause}
@@ -53,10 +54,6 @@ IsJournal-learnt first a b id f journal given next fresh only ok new = record {
       ];
 }
 
--- there are no more normal clauses over the variables of which no two have the same literals
-abbrev pub NoLongerList : Type 0
-NoLongerList = (v : ℕ) (cs : List Clause) → All (λ c. IsNormal c × All (λ l. l.var < v) c) cs → AllPairs (λ c d. ¬ SameLiterals c d) cs → length cs ≤ 3 ^ v
-
 -- the literals of the learnt clauses, first to last
 learnt_clauses : ℕ → ArenaView → List Clause
 learnt_clauses first a = map (literals_at a) (range_with_len first (a.given - first))
@@ -74,16 +71,17 @@ length-learnt first a = length-map-range_with_len (literals_at a) first (a.given
 contained : (c d e f : Clause) → c ≡ e → d ≡ f → SameLiterals c d → ContainsClause f e
 contained c d e f is also same l here = subst (λ (g : Clause). Contains g l) also ((same l).0 (subst (λ (g : Clause). Contains g l) (sym is) here))
 
-pub journal-bounded : NoLongerList → (first : ℕ) (h : HeldView) → IsConsistent h → IsJournal first h.arena → h.arena.given - first ≤ 3 ^ h.vars
+pub journal-bounded : ClausesAreFew → (first : ℕ) (h : HeldView) → IsConsistent h → IsJournal first h.arena → h.arena.given - first ≤ 3 ^ h.vars
 journal-bounded bound first h ok journal =
     let cs : List Clause = learnt_clauses first h.arena in
     let same : length cs ≡ h.arena.given - first = length-learnt first h.arena in
-    let normal : All (λ (c : Clause). IsNormal c × All (λ (l : Literal). l.var < h.vars) c) cs = λ k d within.
+    let over : AreClausesOver h.vars cs = λ k d within.
     let p = learnt-at first h.arena journal k d (omega arith) in
-    subst (λ (c : Clause). IsNormal c × All (λ (l : Literal). l.var < h.vars) c) (sym p.2) (ok.clauses (first + k) p.0 p.1) in
+    let is = ok.clauses (first + k) p.0 p.1 in
+    subst (λ (c : Clause). ¬ IsTautology c × All (λ (l : Literal). l.var < h.vars) c) (sym p.2) (is.0.not_tautology, is.1) in
     let different : AllPairs (λ (c d : Clause). ¬ SameLiterals c d) cs = λ i j d before within both.
     let p = learnt-at first h.arena journal i d (omega arith) in
     let q = learnt-at first h.arena journal j d (omega arith) in
     journal.new (first + j) (first + i) q.0 p.0 (omega arith) (omega arith) q.1 p.1 (contained (get_or cs i d) (get_or cs j d) p.0 q.0 p.2 q.2 both) in
-    let few : length cs ≤ 3 ^ h.vars = bound h.vars cs normal different in
+    let few : length cs ≤ 3 ^ h.vars = bound h.vars cs over different in
     omega arith

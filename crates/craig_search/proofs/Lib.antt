@@ -15,3 +15,5 @@ pub mod NegatedLemmas
 pub mod UnitChainLemmas
 pub mod FailureLemmas
 pub mod FailedLemmas
+pub mod FlatLemmas
+pub mod LimitLemmas

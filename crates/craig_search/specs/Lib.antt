@@ -7,3 +7,4 @@ pub mod Searching
 pub mod Levels
 pub mod LawsOfTelling
 pub mod Failing
+pub mod Journal

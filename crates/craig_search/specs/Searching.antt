@@ -1,7 +1,7 @@
 -- What a search keeps from turn to turn.
 use Rattle.std.specs.Prelude.{◌≡◌, ℕ, ◌<◌, ◌≤◌, true, false, List, [], Option, Some, None, length}
 use Rattle.craig_spec.specs.Literal.{Clause}
-use Rattle.craig_spec.specs.Chain.{ChainOk, Told}
+use Rattle.craig_spec.specs.Chain.{ChainOk, GivesSame, Told}
 use Rattle.craig_base.specs.Arena.{ArenaView, with_clause, with_id}
 use Rattle.craig_base.specs.LemmaRule.{ContainsClause}
 use Rattle.craig_watch.specs.Held.{HeldView, IsConsistent, held_clause}
@@ -12,7 +12,7 @@ use Rattle.craig_order.specs.Order.{OrderView}
 use Rattle.craig_analyze.specs.declared.learnt.Learnt.{Learnt}
 use Rattle.craig_watch.specs.Trail.{IsFalse}
 use Rattle.craig_search.specs.declared.outcome.Outcome.{Outcome}
-use Rattle.craig_search.specs.declared.outcome.Outcome.TheVariants.{Model, Refuted, Failed}
+use Rattle.craig_search.specs.declared.outcome.Outcome.TheVariants.{Model, Refuted, Failed, Limited}
 use Rattle.craig_search.specs.Assuming.{AreAllAssumed, IsAssumed}
 use Rattle.craig_search.specs.Verdict.{Assumptions, IsFound}
 use Rattle.craig_search.specs.Leaves.{IsReady, Leaves}
@@ -41,6 +41,8 @@ TellsLearnt start before after = (t u : Told) → before ≡ Some t → after �
 pub record IsSearching (start now : HeldView) (before by_now : Option Told) : Type 0 where
   -- the clauses that it leaves
   pub leaves : Leaves start now
+  -- each clause that was held at the start is held still
+  pub kept : (id : ℕ) → GivesSame (held_clause start.arena) (held_clause now.arena) id
   -- the clauses that it has learnt
   pub journal : IsJournal start.arena.given now.arena
   -- what it has told
@@ -76,17 +78,18 @@ pub record TellsEmptyClause (old new : HeldView) (root : ℕ) (before after : Op
   -- it was told under the root
   pub told : Appends before after (derived_step root [] first rest)
 
--- the end of the turns: a model on the trail, the empty clause, told at level 0, or an assumption that is false by assumptions alone
+-- the end of the turns: a model on the trail, the empty clause, told at level 0, an assumption that is false by assumptions alone, or the limit
 abbrev pub EndsWith : Assumptions → HeldView → HeldView → OrderView → Option Told → Option Told → Outcome → Type 0
 EndsWith assumptions start end o before after Model = IsSearching start end before after × IsFound end assumptions × (length o.given_back ≡ end.vars)
 EndsWith assumptions start end o before after (Refuted root) =
     (last : HeldView) × (by_then : Option Told) × IsSearching start last before by_then × TellsEmptyClause last end root.0 by_then after × (last.level ≡ 0) × IsReady last o
 EndsWith assumptions start end o before after (Failed l) =
     IsSearching start end before after × IsReady end o × IsFalse end.trail l × IsAssumed assumptions l × AreAllAssumed assumptions end.trail
+EndsWith assumptions start end o before after Limited = IsSearching start end before after × IsReady end o
 
 -- what the turns of a search leave
 pub record IsOutcome (assumptions : Assumptions) (start end : HeldView) (o : OrderView) (before after : Option Told) (outcome : Outcome) : Type 0 where
-  -- a model, the root of a refutation, or a false assumption
+  -- a model, the root of a refutation, a false assumption, or nothing but the limit
   pub ends : EndsWith assumptions start end o before after outcome
   -- the clauses and their trail are as they are after every call
   pub consistent : IsConsistent end

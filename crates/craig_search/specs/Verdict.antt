@@ -62,6 +62,12 @@ IsVerdict old new assumptions limit Model = IsFound new assumptions
 IsVerdict old new assumptions limit (Failed root places) = IsRefuted old assumptions places
 IsVerdict old new assumptions limit (Limit lemmas) = IsLimited old limit lemmas
 
+-- the verdict is a model or a refutation
+abbrev pub IsDefiniteVerdict : Verdict → Type 0
+IsDefiniteVerdict Model = Unit {0}
+IsDefiniteVerdict (Failed root places) = Unit {0}
+IsDefiniteVerdict (Limit lemmas) = ⊥
+
 -- where assumptions fail, the root and the ids below it, one for each of their units, were given in this search
 abbrev pub HasUnitIds : HeldView → Verdict → Type 0
 HasUnitIds old Model = Unit {0}

@@ -1,15 +1,19 @@
 //! The search itself: propagation, decisions and conflicts in turn.
 ghost use Rattle.std.specs.Prelude.{◌≡◌, ◌≢◌, ◌<◌, [], true, Some, None, All, IfOk, IsErr, is_some};
+ghost use Rattle.craig_search.specs.Journal.{ListsLemmas};
 ghost use Rattle.craig_search.specs.Search.{IsSearched, MayBegin};
 ghost use Rattle.craig_search.specs.Searching.{IsOutcome, IsUnderWay};
+ghost use Rattle.craig_search.specs.Verdict.{IsDefiniteVerdict};
 
 use crate::deciding::{Turn, decide_next, first_open};
 use crate::failing::failed;
+use crate::going_back::go_back;
 use crate::learning::learn;
+use crate::listing::list_lemma;
 use crate::outcome::Outcome;
 use crate::refuting::refuted;
 use crate::restarting::restart_if_due;
-use crate::{Places, Verdict};
+use crate::{Journal, Places, Verdict};
 use craig_analyze::Analysis;
 use craig_base::{ClauseId, Lit, Part};
 use craig_order::{Order, Pace};
@@ -32,7 +36,9 @@ use std::alloc::{AllocError, Global};
 /// Assumptions are decided in their order, each at a level of its own, and none that is true already. One that is false
 /// ends the search.
 ///
-/// No limit can be given yet.
+/// A limit, which is not 0, ends the search as soon as so many clauses were learnt. `Limit` has these clauses, the lemmas:
+/// each follows from the clauses that were held when the search began, without the assumptions, has variables of theirs
+/// alone, and contains none of them. They stay held. Without a limit there is no such verdict.
 pub fn search<T: Tracer>(
     alloc: Global,
     held: &mut Held,
@@ -44,8 +50,8 @@ pub fn search<T: Tracer>(
     requires begins { MayBegin held.old order.old (T.told tracer.old) }
     requires known { All (λ a. a.1.var < held.old.vars) assumptions.now }
     requires limit { limit ≢ Some 0 }
-    requires no_limit { limit ≡ None }
     ensures searched { IfOk result (IsSearched held.old held.new order.new (T.told tracer.old) (T.told tracer.new) assumptions.now limit) }
+    ensures decided { limit ≡ None → IfOk result IsDefiniteVerdict }
     ensures vars { held.new.vars ≡ held.old.vars }
     ensures order { order.new.dead ≡ order.old.dead }
     ensures refused { held.old.dead ≡ true → IsErr result }
@@ -53,9 +59,18 @@ pub fn search<T: Tracer>(
     ensures kept { T.kept tracer.new ≡ T.kept tracer.old }
 {
     let level = held.level();
-    prove!(limit.is_none() && level == 0);
+    prove!(level == 0);
     let mut analysis = Analysis::new(alloc);
-    let outcome = run(held, order, tracer, &mut analysis, assumptions)?;
+    let mut journal = Journal::new(alloc);
+    let outcome = run(
+        held,
+        order,
+        tracer,
+        &mut analysis,
+        assumptions,
+        limit,
+        &mut journal,
+    )?;
     match outcome {
         Outcome::Model => Ok(Verdict::Model),
         Outcome::Refuted(root) => Ok(Verdict::Failed {
@@ -69,20 +84,30 @@ pub fn search<T: Tracer>(
                 places: failure.places,
             })
         }
+        Outcome::Limited => {
+            go_back(held, order, 0);
+            Ok(Verdict::Limit(journal))
+        }
     }
 }
 
-/// Searches until no variable is free, until a clause is false at level 0, or until an assumption is false.
+/// Searches until no variable is free, until a clause is false at level 0, until an assumption is false, or until the
+/// journal has as many clauses as the limit.
 fn run<T: Tracer>(
     held: &mut Held,
     order: &mut Order,
     tracer: &mut T,
     analysis: &mut Analysis,
     assumptions: &[(Part, Lit)],
+    limit: Option<u64>,
+    journal: &mut Journal,
 ) -> Result<Outcome, AllocError>
     requires under_way { IsUnderWay held.old order.old (T.told tracer.old) }
     requires level { held.old.level ≡ 0 }
     requires known { All (λ a. a.1.var < held.old.vars) assumptions.now }
+    requires limit { limit ≢ Some 0 }
+    requires none_yet { journal.old ≡ [] }
+    ensures listed { IfOk result (ListsLemmas limit held.old.arena.given held.new.arena journal.new) }
     ensures outcome { IfOk result (IsOutcome assumptions.now held.old held.new order.new (T.told tracer.old) (T.told tracer.new)) }
     ensures vars { held.new.vars ≡ held.old.vars }
     ensures order { order.new.dead ≡ order.old.dead }
@@ -108,7 +133,11 @@ fn run<T: Tracer>(
                 if held.level() == 0 {
                     return Ok(Outcome::Refuted(refuted(held, tracer, analysis, conflict)?));
                 }
-                learn(held, order, tracer, analysis, &mut pace, conflict)?;
+                let learnt = learn(held, order, tracer, analysis, &mut pace, conflict)?;
+                let met = list_lemma(journal, limit, learnt.lits.as_slice())?;
+                if met {
+                    return Ok(Outcome::Limited);
+                }
                 restart_if_due(held, order, &mut pace, assumptions);
                 place = 0;
             }

@@ -1,9 +1,10 @@
 //! Learning from a clause that is false.
-ghost use Rattle.std.specs.Prelude.{◌≡◌, ◌<◌, ◌+◌, ℕ, All, OnOk, is_some, length};
+ghost use Rattle.std.specs.Prelude.{◌≡◌, ◌<◌, ◌+◌, ℕ, All, IfOk, OnOk, is_some, length};
 ghost use Rattle.craig_watch.specs.Trail.{part_up_to};
 ghost use Rattle.craig_watch.specs.Held.{IsConsistent, IsFalsified, MayBeHeld, held_clause};
 ghost use Rattle.craig_proof.specs.Covers.{IsCovering};
 ghost use Rattle.craig_analyze.specs.Learnt.{IsDerived};
+ghost use Rattle.craig_search.specs.Journal.{LearnsNext};
 ghost use Rattle.craig_search.specs.Searching.{GoesOn, IsNew, IsUnderWay, with_learnt};
 
 use crate::going_back::go_back;
@@ -15,6 +16,7 @@ use craig_watch::Held;
 use std::alloc::AllocError;
 
 /// Learns a clause from one that is false above level 0, goes back to where it forces its first literal, and holds it.
+/// It is the next lemma.
 pub(crate) fn learn<T: Tracer>(
     held: &mut Held,
     order: &mut Order,
@@ -22,12 +24,13 @@ pub(crate) fn learn<T: Tracer>(
     analysis: &mut Analysis,
     pace: &mut Pace,
     conflict: ClauseId,
-) -> Result<(), AllocError>
+) -> Result<Learnt, AllocError>
     requires level { 0 < held.old.level }
     requires conflict { IsFalsified held.old conflict.0 }
     requires under_way { IsUnderWay held.old order.old (T.told tracer.old) }
     ensures goes_on { OnOk result (GoesOn held.old held.new (T.told tracer.old) (T.told tracer.new)) }
     ensures given { OnOk result (held.new.arena.given ≡ held.old.arena.given + 1) }
+    ensures listed { IfOk result (λ learnt. LearnsNext held.old held.new learnt.lits) }
     ensures under_way { OnOk result (IsUnderWay held.new order.new (T.told tracer.new)) }
     ensures back { OnOk result ((level : ℕ) × (held.new.trail ≡ part_up_to level held.old.trail)) }
     ensures vars { held.new.vars ≡ held.old.vars }
@@ -42,7 +45,7 @@ pub(crate) fn learn<T: Tracer>(
     raise(order, learnt.lits.as_slice(), learnt.rest.as_slice());
     go_back(held, order, learnt.back);
     hold_learnt(held, tracer, &learnt)?;
-    Ok(())
+    Ok(learnt)
 }
 
 /// Raises the scores of the variables that analysis met: those of the learnt clause, and those that were resolved on.
@@ -72,6 +75,7 @@ fn hold_learnt<T: Tracer>(
     requires new { IsNew held.old.arena learnt.now.lits }
     requires covers { IsCovering (T.told tracer.old) (held_clause held.old.arena) held.old.arena.given }
     ensures goes_on { OnOk result (GoesOn held.old held.new (T.told tracer.old) (T.told tracer.new)) }
+    ensures listed { OnOk result (LearnsNext held.old held.new learnt.now.lits) }
     ensures vars { held.new.vars ≡ held.old.vars }
     ensures held { OnOk result (held.new ≡ record held.old { arena = with_learnt held.old.arena learnt.now }) }
     ensures consistent { OnOk result (IsConsistent held.new) }

@@ -13,6 +13,7 @@ mod going_back;
 mod journal;
 pub mod laws;
 mod learning;
+mod listing;
 mod outcome;
 mod places;
 mod refuting;

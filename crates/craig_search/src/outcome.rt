@@ -9,4 +9,6 @@ pub(crate) enum Outcome {
     Refuted(ClauseId),
     /// The assumed literal is false.
     Failed(Lit),
+    /// As many clauses as the limit were learnt.
+    Limited,
 }

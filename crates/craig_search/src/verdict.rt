@@ -14,6 +14,6 @@ pub enum Verdict {
         /// The places of assumptions, rising.
         places: Places,
     },
-    /// The conflict limit was met, by these learnt clauses.
+    /// The conflict limit was met, by these lemmas.
     Limit(Journal),
 }

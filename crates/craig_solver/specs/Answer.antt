@@ -22,6 +22,12 @@ IsAnswer clauses vars assumptions limit (Failed root places) =
 IsAnswer clauses vars assumptions limit (Limit lemmas) =
     (limit ≡ Some (length lemmas)) × MeetsLemmaRule clauses lemmas
 
+-- the answer is a model or a refutation
+abbrev pub IsDefiniteAnswer : Answer → Type 0
+IsDefiniteAnswer (Model values) = Unit {0}
+IsDefiniteAnswer (Failed root places) = Unit {0}
+IsDefiniteAnswer (Limit lemmas) = ⊥
+
 -- the root that an answer has
 abbrev pub root_of_answer : Answer → Option ℕ
 root_of_answer (Model values) = None

@@ -16,6 +16,6 @@ pub enum Answer {
         /// The places of assumptions, rising, counted from 0, each the first one of its literal.
         places: Places,
     },
-    /// The conflict limit was met, by these learnt clauses. No limit can be given yet.
+    /// The conflict limit was met, by these lemmas over dense variables. They follow from the accepted clauses alone.
     Limit(Journal),
 }

@@ -3,7 +3,7 @@
 ghost use Rattle.std.specs.Prelude.{◌≡◌, ◌≢◌, ℕ, ◌<◌, ◌≤◌, [], true, false, Some, None, All, IfOk, OnOk, OnErr, IsErr, is_some, length, max, slice_index_or};
 ghost use Rattle.std.specs.Option.{ForSome};
 ghost use Rattle.craig_spec.specs.Chain.{nothing_told};
-ghost use Rattle.craig_solver.specs.Answer.{accepted_clauses};
+ghost use Rattle.craig_solver.specs.Answer.{IsDefiniteAnswer, accepted_clauses};
 ghost use Rattle.craig_solver.specs.Solver.{IsAdded, IsSolved, StandFor};
 ghost use Rattle.craig_solver.specs.Told.{AreAllAccepted, IsRootTold, IsToldOf};
 
@@ -99,11 +99,13 @@ impl<T: Tracer> Solver<T> {
     ///
     /// Each assumption is a literal of a known variable, in a part. The answer is a model; or assumptions, by their
     /// places, that no assignment makes true together with the accepted clauses; or as many learnt clauses as `limit`
-    /// says, which is not 0. A tracer that tells its meaning was then told the empty clause of a refutation, its root,
+    /// says, which is not 0: lemmas, each of which follows from the accepted clauses, without the assumptions, has
+    /// variables of theirs alone, is no tautology and contains none of them. Without a limit no lemmas are answered.
+    /// A tracer that tells its meaning was then told the empty clause of a refutation, its root,
     /// which rests on accepted clauses and on the units of these assumptions alone. The root of the answer before and
     /// its units are forgotten. The accepted clauses stay, and the held ones may change the order of their literals.
     ///
-    /// No limit can be given yet.
+    /// Lemmas stay held for the solves after this one.
     pub fn solve(
         &mut self,
         assumptions: &[(Part, Lit)],
@@ -111,8 +113,8 @@ impl<T: Tracer> Solver<T> {
     ) -> Result<Answer, AllocError>
         requires known { All (λ a. a.1.var < self.old.vars) assumptions.now }
         requires limit { limit ≢ Some 0 }
-        requires no_limit { limit ≡ None }
         ensures solved { IfOk result (IsSolved self.old self.new (T.told self.new.tracer) assumptions.now limit) }
+        ensures decided { limit ≡ None → IfOk result IsDefiniteAnswer }
         ensures accepted { self.new.accepted ≡ self.old.accepted }
         ensures vars { self.new.vars ≡ self.old.vars }
         ensures alive { OnOk result (self.new.dead ≡ false) }

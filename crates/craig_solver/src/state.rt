@@ -145,7 +145,6 @@ impl<T: Tracer> State<T> {
     ) -> Result<Answer, AllocError>
         requires known { All (λ a. a.1.var < self.old.held.vars) assumptions.now }
         requires limit { limit ≢ Some 0 }
-        requires no_limit { limit ≡ None }
         requires state { IsState (state_with (T.told self.old.tracer) self.old) }
         ensures state { OnOk result (IsState (state_with (T.told self.new.tracer) self.new)) }
         ensures solved { IfOk result (IsSolved (living_view self.old) (living_view self.new) (T.told self.new.tracer) assumptions.now limit) }

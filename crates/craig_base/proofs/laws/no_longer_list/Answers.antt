@@ -1,5 +1,11 @@
-use Rattle.craig_base.proofs.BoundLemmas.{length-le_from_apart}
+use Rattle.craig_base.proofs.BoundLemmas.{clauses-few, lemmas-few, repeated-few}
 use Rattle.craig_base.proofs.laws.no_longer_list.Goals as goal
 
-pub returns : goal.returns
-returns c = length-le_from_apart
+pub returns-clause-once : goal.returns-clause-once
+returns-clause-once c = clauses-few
+
+pub returns-clause-twice : goal.returns-clause-twice
+returns-clause-twice c = repeated-few
+
+pub returns-clause-lemmas : goal.returns-clause-lemmas
+returns-clause-lemmas c = lemmas-few

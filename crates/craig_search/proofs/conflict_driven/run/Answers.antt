@@ -5,6 +5,9 @@ use Rattle.craig_search.specs.Searching.{IsJournal, IsSearching}
 use Rattle.craig_search.proofs.CoversLemmas.{covers-reordered}
 use Rattle.craig_search.proofs.JournalLemmas.{journal-bounded}
 use Rattle.craig_search.proofs.MeasureLemmas.{turns-learnt}
+use Rattle.craig_spec.specs.Literal.{Clause}
+use Rattle.craig_search.specs.Journal.{AreBelow, IsListed}
+use Rattle.craig_search.proofs.LimitLemmas.{AreAtLimit-listed, AreBelow-listed, AreBelow-reordered, AreBelow-start}
 use Rattle.craig_search.proofs.ReadyLemmas.{IsReady-longer}
 use Rattle.craig_search.proofs.AssumingLemmas.{before-longer, decided-back, decided-longer, decided-root}
 use Rattle.craig_search.proofs.SearchingLemmas.{IsSearching-lengthened, IsSearching-moved, IsSearching-start}
@@ -21,6 +24,7 @@ loop-held-init g c = record {
   within = omega arith;
   decided = decided-root c.args.assumptions.now c.args.held.now c.requires.under_way.consistent c.requires.level;
   before = λ p a low at. absurd (omega (arith, low));
+  listed = subst (AreBelow c.args.limit c.args.held.now.arena.given c.args.held.now.arena) (sym c.requires.none_yet) (AreBelow-start c.args.limit c.args.held.now.arena c.requires.limit);
 }
 
 pub first_open-place-requires-clause-before : goal.first_open-place-requires-clause-before
@@ -58,6 +62,7 @@ loop-held-preserved-in-Decided g c =
       within = c.first_open-place.ensures.within;
       decided = turn.3;
       before = before-longer p.trail _ new.trail c.args.assumptions.now c.first_open-place.result (ap (λ (h : HeldView). h.trail) is) c.first_open-place.ensures.before;
+      listed = subst (λ (h : HeldView). AreBelow c.args.limit c.args.held.now.arena.given h.arena c.loop-held.journal) (sym is) (AreBelow-reordered c.args.limit c.args.held.now.arena.given old.arena p.arena c.loop-held.journal c.loop-held.invariant.listed lengthened.clauses);
     }
 
 pub returns-in-Model-clause-outcome : goal.returns-in-Model-clause-outcome
@@ -127,28 +132,29 @@ learn-requires-clause-under_way g c =
       covers = covers-reordered (g.T.Tracer.told c.loop-held.tracer) c.loop-held.held.arena c.propagate.new.self.arena c.loop-held.invariant.covers lengthened.clauses;
     }
 
-pub loop-held-smaller : goal.loop-held-smaller
-loop-held-smaller g c =
+pub loop-held-smaller-else-met : goal.loop-held-smaller-else-met
+loop-held-smaller-else-met g c =
     let start = c.args.held.now in
     let old = c.loop-held.held in
     let new = c.restart_if_due.new.held in
     let lengthened = c.in_ok-propagate.ensures.lengthened in
     let restarted = c.restart_if_due.ensures.back.1 in
-    let search = c.in_ok-learn-in-Some.ensures.goes_on start _ (IsSearching-lengthened start old c.propagate.new.self _ _ c.loop-held.invariant.searching lengthened) in
+    let search = c.in_ok-learnt-in-Some.ensures.goes_on start _ (IsSearching-lengthened start old c.propagate.new.self _ _ c.loop-held.invariant.searching lengthened) in
     let vars : new.vars ≡ old.vars = ap (λ (h : HeldView). h.vars) restarted ∙ search.leaves.vars ∙ sym c.loop-held.invariant.searching.leaves.vars in
-    let given : new.arena.given ≡ old.arena.given + 1 = ap (λ (h : HeldView). h.arena.given) restarted ∙ c.in_ok-learn-in-Some.ensures.given ∙ ap (λ (n : ℕ). n + 1) lengthened.clauses.given in
+    let given : new.arena.given ≡ old.arena.given + 1 = ap (λ (h : HeldView). h.arena.given) restarted ∙ c.in_ok-learnt-in-Some.ensures.given ∙ ap (λ (n : ℕ). n + 1) lengthened.clauses.given in
     let journal = subst (λ (h : HeldView). IsJournal start.arena.given h.arena) (sym restarted) search.journal in
-    turns-learnt start.arena.given old new vars given c.loop-held.invariant.searching.leaves.given (journal-bounded c.no_longer_list.ensures start.arena.given new c.restart_if_due.ensures.consistent journal)
+    turns-learnt start.arena.given old new vars given c.loop-held.invariant.searching.leaves.given (journal-bounded c.no_longer_list.ensures.once start.arena.given new c.restart_if_due.ensures.consistent journal)
 
-pub loop-held-preserved : goal.loop-held-preserved
-loop-held-preserved g c =
+pub loop-held-preserved-else-met : goal.loop-held-preserved-else-met
+loop-held-preserved-else-met g c =
     let start = c.args.held.now in
     let old = c.loop-held.held in
     let lengthened = c.in_ok-propagate.ensures.lengthened in
-    let learnt = c.in_ok-learn-in-Some.ensures in
+    let learnt = c.in_ok-learnt-in-Some.ensures in
     let restarted = c.restart_if_due.ensures.back in
     let search = learnt.goes_on start (g.T.Tracer.told c.args.tracer.now) (IsSearching-lengthened start old c.propagate.new.self _ _ c.loop-held.invariant.searching lengthened) in
     let decided = decided-back c.args.assumptions.now c.propagate.new.self.trail c.learn.new.held.trail learnt.back.0 learnt.back.1 (decided-longer c.args.assumptions.now old.trail lengthened.added c.propagate.new.self.trail lengthened.trail lengthened.reason c.loop-held.invariant.decided) in
+    let listed = subst (λ (d : Clause). IsListed c.args.limit d c.loop-held.journal c.list_lemma.new.journal c.in_ok-met-in-Some.met) c.as_slice.ensures c.in_ok-met-in-Some.ensures in
     record {
       searching = subst (λ (h : HeldView). IsSearching start h (g.T.Tracer.told c.args.tracer.now) (g.T.Tracer.told c.learn.new.tracer)) (sym restarted.1) (IsSearching-moved start c.learn.new.held _ _ _ _ search);
       ready = c.restart_if_due.ensures.ready;
@@ -159,4 +165,64 @@ loop-held-preserved g c =
       within = omega arith;
       decided = decided-back c.args.assumptions.now c.learn.new.held.trail c.restart_if_due.new.held.trail restarted.0 (ap (λ (h : HeldView). h.trail) restarted.1) decided;
       before = λ p a low at. absurd (omega (arith, low));
+      listed = subst (λ (h : HeldView). AreBelow c.args.limit start.arena.given h.arena c.list_lemma.new.journal) (sym restarted.1) (AreBelow-listed c.args.limit start.arena.given c.propagate.new.self.arena c.learn.new.held.arena _ c.loop-held.journal c.list_lemma.new.journal _ (AreBelow-reordered c.args.limit start.arena.given old.arena c.propagate.new.self.arena c.loop-held.journal c.loop-held.invariant.listed lengthened.clauses) (learnt.listed start.arena.given c.loop-held.journal) listed c.if-met.false);
+    }
+
+pub loop-held-smaller : goal.loop-held-smaller
+loop-held-smaller g c =
+    let start = c.args.held.now in
+    let old = c.loop-held.held in
+    let new = c.restart_if_due.new.held in
+    let lengthened = c.in_ok-propagate.ensures.lengthened in
+    let restarted = c.restart_if_due.ensures.back.1 in
+    let search = c.in_ok-learnt-in-Some.ensures.goes_on start _ (IsSearching-lengthened start old c.propagate.new.self _ _ c.loop-held.invariant.searching lengthened) in
+    let vars : new.vars ≡ old.vars = ap (λ (h : HeldView). h.vars) restarted ∙ search.leaves.vars ∙ sym c.loop-held.invariant.searching.leaves.vars in
+    let given : new.arena.given ≡ old.arena.given + 1 = ap (λ (h : HeldView). h.arena.given) restarted ∙ c.in_ok-learnt-in-Some.ensures.given ∙ ap (λ (n : ℕ). n + 1) lengthened.clauses.given in
+    let journal = subst (λ (h : HeldView). IsJournal start.arena.given h.arena) (sym restarted) search.journal in
+    turns-learnt start.arena.given old new vars given c.loop-held.invariant.searching.leaves.given (journal-bounded c.no_longer_list.ensures.once start.arena.given new c.restart_if_due.ensures.consistent journal)
+
+pub loop-held-preserved : goal.loop-held-preserved
+loop-held-preserved g c =
+    let start = c.args.held.now in
+    let old = c.loop-held.held in
+    let lengthened = c.in_ok-propagate.ensures.lengthened in
+    let learnt = c.in_ok-learnt-in-Some.ensures in
+    let restarted = c.restart_if_due.ensures.back in
+    let search = learnt.goes_on start (g.T.Tracer.told c.args.tracer.now) (IsSearching-lengthened start old c.propagate.new.self _ _ c.loop-held.invariant.searching lengthened) in
+    let decided = decided-back c.args.assumptions.now c.propagate.new.self.trail c.learn.new.held.trail learnt.back.0 learnt.back.1 (decided-longer c.args.assumptions.now old.trail lengthened.added c.propagate.new.self.trail lengthened.trail lengthened.reason c.loop-held.invariant.decided) in
+    let listed = subst (λ (d : Clause). IsListed c.args.limit d c.loop-held.journal c.list_lemma.new.journal c.in_ok-met-in-Some.met) c.as_slice.ensures c.in_ok-met-in-Some.ensures in
+    record {
+      searching = subst (λ (h : HeldView). IsSearching start h (g.T.Tracer.told c.args.tracer.now) (g.T.Tracer.told c.learn.new.tracer)) (sym restarted.1) (IsSearching-moved start c.learn.new.held _ _ _ _ search);
+      ready = c.restart_if_due.ensures.ready;
+      covers = subst (λ (h : HeldView). IsCovering (g.T.Tracer.told c.learn.new.tracer) (held_clause h.arena) h.arena.given) (sym restarted.1) learnt.under_way.covers;
+      order = c.restart_if_due.ensures.dead ∙ learnt.order ∙ c.loop-held.invariant.order;
+      tells = learnt.tells ∙ c.loop-held.invariant.tells;
+      kept = learnt.kept ∙ c.loop-held.invariant.kept;
+      within = omega arith;
+      decided = decided-back c.args.assumptions.now c.learn.new.held.trail c.restart_if_due.new.held.trail restarted.0 (ap (λ (h : HeldView). h.trail) restarted.1) decided;
+      before = λ p a low at. absurd (omega (arith, low));
+      listed = subst (λ (h : HeldView). AreBelow c.args.limit start.arena.given h.arena c.list_lemma.new.journal) (sym restarted.1) (AreBelow-listed c.args.limit start.arena.given c.propagate.new.self.arena c.learn.new.held.arena _ c.loop-held.journal c.list_lemma.new.journal _ (AreBelow-reordered c.args.limit start.arena.given old.arena c.propagate.new.self.arena c.loop-held.journal c.loop-held.invariant.listed lengthened.clauses) (learnt.listed start.arena.given c.loop-held.journal) listed c.if-met.false);
+    }
+
+pub returns-then-met-clause-listed : goal.returns-then-met-clause-listed
+returns-then-met-clause-listed g c =
+    let start = c.args.held.now in
+    let lengthened = c.in_ok-propagate.ensures.lengthened in
+    let listed = subst (λ (d : Clause). IsListed c.args.limit d c.loop-held.journal c.list_lemma.new.journal c.in_ok-met-in-Some.met) c.as_slice.ensures c.in_ok-met-in-Some.ensures in
+    AreAtLimit-listed c.args.limit start.arena.given c.propagate.new.self.arena c.learn.new.held.arena c.in_ok-learnt-in-Some.learnt.lits c.loop-held.journal c.list_lemma.new.journal c.in_ok-met-in-Some.met (AreBelow-reordered c.args.limit start.arena.given c.loop-held.held.arena c.propagate.new.self.arena c.loop-held.journal c.loop-held.invariant.listed lengthened.clauses) (c.in_ok-learnt-in-Some.ensures.listed start.arena.given c.loop-held.journal) listed c.if-met.true
+
+pub returns-then-met-clause-outcome : goal.returns-then-met-clause-outcome
+returns-then-met-clause-outcome g c =
+    let start = c.args.held.now in
+    let old = c.loop-held.held in
+    let p = c.propagate.new.self in
+    let lengthened = c.in_ok-propagate.ensures.lengthened in
+    let learnt = c.in_ok-learnt-in-Some.ensures in
+    let before = IsSearching-lengthened start old p _ _ c.loop-held.invariant.searching lengthened in
+    let search = learnt.goes_on start (g.T.Tracer.told c.args.tracer.now) before in
+    record {
+      ends = (search, learnt.under_way.ready);
+      consistent = learnt.under_way.consistent;
+      alive = search.leaves.dead ∙ sym before.leaves.dead ∙ c.in_ok-propagate.ensures.alive;
+      covers = learnt.under_way.covers;
     }

@@ -3,6 +3,7 @@ use Rattle.std.specs.Option.{is_some}
 use Rattle.craig_watch.specs.Held.{held_clause}
 use Rattle.craig_proof.specs.Covers.{IsCovering}
 use Rattle.craig_search.specs.Assuming.{AreDecided, AreTrueBefore}
+use Rattle.craig_search.specs.Journal.{AreBelow}
 use Rattle.craig_search.specs.Leaves.{IsReady}
 use Rattle.craig_search.specs.Searching.{IsSearching}
 use Rattle.craig_search.proofs.MeasureLemmas.{turns}
@@ -19,6 +20,7 @@ invariant-loop-held g l = record {
   within : l.place ≤ length l.assumptions;
   decided : AreDecided l.assumptions l.held.trail;
   before : AreTrueBefore l.held.trail l.assumptions l.place;
+  listed : AreBelow l.limit l.initial.held.arena.given l.held.arena l.journal;
 }
 
 abbrev pub decreases-loop-held : goal.decreases-loop-held

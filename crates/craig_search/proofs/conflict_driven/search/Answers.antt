@@ -1,10 +1,14 @@
 use Rattle.std.proofs.Common.{◌≡◌, ℕ, ◌≤◌, List, length, ap, sym, subst, ◌∙◌, arith}
 use Rattle.craig_watch.specs.Trail.{part_up_to}
 use Rattle.craig_watch.specs.Held.{HeldView, held_clause}
+use Rattle.craig_proof.specs.Covers.{IsCovering}
+use Rattle.craig_search.specs.Journal.{ListsLemmas}
+use Rattle.craig_search.specs.Leaves.{Leaves}
 use Rattle.craig_search.specs.Searching.{IsOutcome}
 use Rattle.craig_search.specs.Tells.{IsRoot, IsUnitId, Tells}
 use Rattle.craig_search.specs.Verdict.{IsRefuted}
 use Rattle.craig_search.proofs.FailedLemmas.{failed-contradictory, failed-leaves, failed-told}
+use Rattle.craig_search.proofs.LimitLemmas.{IsLimited-learnt}
 use Rattle.craig_search.proofs.SearchingLemmas.{IsSearching-moved}
 use Rattle.craig_search.proofs.VerdictLemmas.{refuted-contradictory, refuted-leaves, refuted-ready, refuted-told}
 use Rattle.craig_search.proofs.conflict_driven.search.Goals as goal
@@ -18,6 +22,8 @@ run-requires g c = record {
   };
   level = c.requires.begins.level;
   known = c.requires.known;
+  limit = c.requires.limit;
+  none_yet = c.new-journal.ensures;
 }
 
 pub returns-in-Model-clause-searched : goal.returns-in-Model-clause-searched
@@ -56,8 +62,8 @@ returns-in-Refuted-clause-searched g c =
       told = λ t u is also. subst (λ (places : List ℕ). Tells (held_clause start.arena) start.arena.given (IsUnitId root places) t u × IsRoot end assumptions root places t u) (sym c.none.ensures) (refuted-told start last end root _ by_then _ assumptions t u outcome.consistent.arena search empty is also);
     }
 
-pub returns-clause-searched : goal.returns-clause-searched
-returns-clause-searched g c =
+pub returns-in-Failed-clause-searched : goal.returns-in-Failed-clause-searched
+returns-in-Failed-clause-searched g c =
     let start = c.args.held.now in
     let end = c.run.new.held in
     let mid : HeldView = record end { trail = part_up_to 0 end.trail; level = 0 } in
@@ -75,4 +81,24 @@ returns-clause-searched g c =
       alive = ap (λ (h : HeldView). h.dead) f.numbered ∙ outcome.alive;
       covers = c.in_ok-failure-in-Failed.ensures.covers;
       told = λ t u is also. failed-told start mid new assumptions _ _ _ _ _ t u search f outcome.consistent.arena (c.in_ok-failure-in-Failed.ensures.covers u also) is also;
+    }
+
+pub returns-clause-searched : goal.returns-clause-searched
+returns-clause-searched g c =
+    let start = c.args.held.now in
+    let end = c.run.new.held in
+    let after = g.T.Tracer.told c.run.new.tracer in
+    let back = c.go_back.ensures.back in
+    let outcome = subst (IsOutcome c.args.assumptions.now start end c.run.new.order (g.T.Tracer.told c.args.tracer.now) after) c.in-Limited.is c.in_ok-outcome.ensures.outcome in
+    let listed = subst (ListsLemmas c.args.limit start.arena.given end.arena c.run.new.journal) c.in-Limited.is c.in_ok-outcome.ensures.listed in
+    let search = outcome.ends.0 in
+    record {
+      verdict = IsLimited-learnt start end (g.T.Tracer.told c.args.tracer.now) after c.run.new.journal c.level-level.ensures.consistent outcome.consistent search listed.0 c.args.limit listed.1;
+      ids = tt;
+      at_rest = (ap (λ (h : HeldView). h.level) back, c.go_back.ensures.ready);
+      leaves = subst (Leaves start) (sym back) (IsSearching-moved start end _ _ (part_up_to 0 end.trail) 0 search).leaves;
+      consistent = c.go_back.ensures.consistent;
+      alive = ap (λ (h : HeldView). h.dead) back ∙ outcome.alive;
+      covers = subst (λ (h : HeldView). IsCovering after (held_clause h.arena) h.arena.given) (sym back) outcome.covers;
+      told = search.tells;
     }

@@ -1,4 +1,4 @@
-use Rattle.std.proofs.Common.{◌≡◌, ◌+◌, ℕ, List, All, refl, ap, sym, subst}
+use Rattle.std.proofs.Common.{◌≡◌, ◌+◌, ℕ, List, [], ◌∷◌, ◌++◌, All, refl, ap, sym, subst}
 use Rattle.std.specs.Option.{ForSome}
 use Rattle.std.proofs.lemmas.Result.{IfOk-from_err}
 use Rattle.craig_spec.specs.Literal.{Clause}
@@ -8,7 +8,10 @@ use Rattle.craig_proof.specs.declared.step.Step.{Step}
 use Rattle.craig_watch.specs.Held.{HeldView, MayBeHeld, held_clause}
 use Rattle.craig_search.specs.Searching.{IsNew}
 use Rattle.craig_search.proofs.LeavesLemmas.{Leaves-learnt}
+use Rattle.craig_search.specs.Journal.{AreLearnt}
 use Rattle.craig_search.proofs.JournalLemmas.{IsJournal-learnt}
+use Rattle.craig_search.proofs.LimitLemmas.{AreLearnt-learnt}
+use Rattle.craig_search.proofs.SearchingLemmas.{kept-learnt}
 use Rattle.craig_search.proofs.TellsLemmas.{TellsLearnt-told, derived-of_search}
 use Rattle.craig_proof.proofs.OldOrNextLemmas.{old_or_added}
 use Rattle.craig_search.proofs.CoversLemmas.{covers-told}
@@ -35,9 +38,16 @@ returns-clause-goes_on g c =
     let new = subst (IsNew old.arena) (sym c.as_slice-lits.ensures) c.requires.new in
     λ start before search. record {
       leaves = Leaves-learnt start old c.hold.new.self c.in_ok-id.id.0 _ _ _ search.leaves (ap (λ (h : HeldView). h.vars) held) (ap (λ (h : HeldView). h.dead) held) given c.in_ok-id.ensures.next c.in_ok-id.ensures.fresh c.in_ok-id.ensures.only refl chain;
+      kept = λ k. kept-learnt (held_clause start.arena) old.arena c.hold.new.self.arena c.in_ok-id.id.0 k _ (search.kept k) c.in_ok-id.ensures.fresh c.in_ok-id.ensures.only;
       journal = IsJournal-learnt start.arena.given old.arena c.hold.new.self.arena c.in_ok-id.id.0 _ search.journal given c.in_ok-id.ensures.next c.in_ok-id.ensures.fresh c.in_ok-id.ensures.only c.in_ok-id.ensures.consistent.arena new;
       tells = TellsLearnt-told start before _ _ _ search.tells c.in_ok-derived.ensures.told (derived-of_search (λ (id : ℕ). ⊥) start old _ _ _ _ search.leaves c.in_ok-id.ensures.next chain_too);
     }
+
+pub returns-clause-listed : goal.returns-clause-listed
+returns-clause-listed g c = λ first lemmas are.
+    let old = c.args.held.now in
+    let given : c.hold.new.self.arena.given ≡ old.arena.given + 1 = ap (λ (h : HeldView). h.arena.given) c.in_ok-id.ensures.held in
+    subst (λ (d : Clause). AreLearnt first c.hold.new.self.arena (lemmas ++ d ∷ [])) c.as_slice-lits.ensures (AreLearnt-learnt first old.arena c.hold.new.self.arena c.in_ok-id.id.0 _ lemmas are given c.in_ok-id.ensures.next c.in_ok-id.ensures.fresh c.in_ok-id.ensures.only)
 
 pub returns-clause-covers : goal.returns-clause-covers
 returns-clause-covers g c =
@@ -48,6 +58,9 @@ returns-clause-covers g c =
 
 pub returns-in_err-id-clause-goes_on : goal.returns-in_err-id-clause-goes_on
 returns-in_err-id-clause-goes_on g c = IfOk-from_err _ _ c.from_residual.ensures.0
+
+pub returns-in_err-id-clause-listed : goal.returns-in_err-id-clause-listed
+returns-in_err-id-clause-listed g c = IfOk-from_err _ _ c.from_residual.ensures.0
 
 pub returns-in_err-id-clause-held : goal.returns-in_err-id-clause-held
 returns-in_err-id-clause-held g c = IfOk-from_err _ _ c.from_residual.ensures.0
@@ -60,6 +73,9 @@ returns-in_err-id-clause-covers g c = IfOk-from_err _ _ c.from_residual.ensures.
 
 pub returns-in_err-derived-clause-goes_on : goal.returns-in_err-derived-clause-goes_on
 returns-in_err-derived-clause-goes_on g c = IfOk-from_err _ _ c.from_residual-in_err-derived.ensures.0
+
+pub returns-in_err-derived-clause-listed : goal.returns-in_err-derived-clause-listed
+returns-in_err-derived-clause-listed g c = IfOk-from_err _ _ c.from_residual-in_err-derived.ensures.0
 
 pub returns-in_err-derived-clause-held : goal.returns-in_err-derived-clause-held
 returns-in_err-derived-clause-held g c = IfOk-from_err _ _ c.from_residual-in_err-derived.ensures.0

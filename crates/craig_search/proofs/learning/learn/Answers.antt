@@ -3,6 +3,7 @@ use Rattle.std.proofs.lemmas.Result.{IfOk-from_err}
 use Rattle.craig_spec.specs.Literal.{Literal}
 use Rattle.craig_proof.specs.declared.step.Step.{Step}
 use Rattle.craig_watch.specs.Held.{HeldView, MayBeHeld}
+use Rattle.craig_search.specs.Journal.{AreLearnt}
 use Rattle.craig_search.specs.Searching.{IsSearching}
 use Rattle.craig_search.proofs.LearntLemmas.{back-below, fits-back, known-falsified, known-pivots}
 use Rattle.craig_search.proofs.SearchingLemmas.{IsSearching-moved}
@@ -41,11 +42,18 @@ returns-clause-goes_on g c = λ start before search.
     let moved = subst (λ (h : HeldView). IsSearching start h before (g.T.Tracer.told c.args.tracer.now)) (sym c.go_back.ensures.back) (IsSearching-moved start c.args.held.now before _ _ _ search) in
     c.in_ok-hold_learnt.ensures.goes_on start before moved
 
+pub returns-clause-listed : goal.returns-clause-listed
+returns-clause-listed g c = λ first lemmas are.
+    c.in_ok-hold_learnt.ensures.listed first lemmas (subst (λ (h : HeldView). AreLearnt first h.arena lemmas) (sym c.go_back.ensures.back) are)
+
 pub returns-in_err-learnt-clause-goes_on : goal.returns-in_err-learnt-clause-goes_on
 returns-in_err-learnt-clause-goes_on g c = IfOk-from_err _ _ c.from_residual.ensures.0
 
 pub returns-in_err-learnt-clause-given : goal.returns-in_err-learnt-clause-given
 returns-in_err-learnt-clause-given g c = IfOk-from_err _ _ c.from_residual.ensures.0
+
+pub returns-in_err-learnt-clause-listed : goal.returns-in_err-learnt-clause-listed
+returns-in_err-learnt-clause-listed g c = IfOk-from_err _ _ c.from_residual.ensures.0
 
 pub returns-in_err-learnt-clause-under_way : goal.returns-in_err-learnt-clause-under_way
 returns-in_err-learnt-clause-under_way g c = IfOk-from_err _ _ c.from_residual.ensures.0
@@ -55,6 +63,9 @@ returns-in_err-hold_learnt-clause-goes_on g c = IfOk-from_err _ _ c.from_residua
 
 pub returns-in_err-hold_learnt-clause-given : goal.returns-in_err-hold_learnt-clause-given
 returns-in_err-hold_learnt-clause-given g c = IfOk-from_err _ _ c.from_residual-in_err-hold_learnt.ensures.0
+
+pub returns-in_err-hold_learnt-clause-listed : goal.returns-in_err-hold_learnt-clause-listed
+returns-in_err-hold_learnt-clause-listed g c = IfOk-from_err _ _ c.from_residual-in_err-hold_learnt.ensures.0
 
 pub returns-in_err-hold_learnt-clause-under_way : goal.returns-in_err-hold_learnt-clause-under_way
 returns-in_err-hold_learnt-clause-under_way g c = IfOk-from_err _ _ c.from_residual-in_err-hold_learnt.ensures.0

@@ -7,7 +7,7 @@ use Rattle.craig_spec.specs.Literal.{Literal, Clause, negation}
 use Rattle.craig_spec.specs.Chain.{SameLiterals, Told}
 use Rattle.craig_spec.proofs.ClauseLemmas.{SameLiterals-refl, SameLiterals-sym, SameLiterals-trans, clause_value-same, occurs_in_clause-same}
 use Rattle.craig_base.specs.Arena.{ArenaView, ChangesOnly, FlaggedClause, OnlyReorders, clause_at, clauses_of}
-use Rattle.craig_base.specs.Clauses.{IsTautology}
+use Rattle.craig_base.specs.Clauses.{IsNormal, IsTautology}
 use Rattle.craig_base.specs.LemmaRule.{ContainsClause}
 use Rattle.craig_base.proofs.FoundLemmas.{literals_of-Contains}
 use Rattle.craig_base.proofs.LookUpLemmas.{added-here, added-kept, flagged, held-below}
@@ -18,7 +18,7 @@ use Rattle.craig_search.specs.Searching.{IsSearching}
 use Rattle.craig_search.specs.Verdict.{IsLimited}
 
 AreLearnt-start : (a : ArenaView) → AreLearnt a.given a []
-AreLearnt-start a = record { many = omega arith; each = λ k d within. absurd (omega arith) }
+AreLearnt-start a = record { many = omega arith; each = λ k d within. absurd (omega arith); normal = λ k d within. absurd (omega arith) }
 
 -- after clauses changed the order of their literals
 AreLearnt-reordered : (first : ℕ) (a b : ArenaView) (lemmas : List Clause) → AreLearnt first a lemmas → OnlyReorders a b → AreLearnt first b lemmas
@@ -28,11 +28,12 @@ AreLearnt-reordered first a b lemmas are only = record {
       let p = are.each k d within in
       let q = GivesSame-reordered a b only (first + k) p.0 p.1 in
       (q.0, q.1, SameLiterals-trans (get_or lemmas k d) p.0 q.0 p.2 q.2);
+  normal = are.normal;
 }
 
 -- after one clause more was learnt
-pub AreLearnt-learnt : (first : ℕ) (a b : ArenaView) (id : ℕ) (f : FlaggedClause) (lemmas : List Clause) → AreLearnt first a lemmas → b.given ≡ a.given + 1 → id ≡ a.given → clause_at a id ≡ None → ChangesOnly a b id (Some f) → AreLearnt first b (lemmas ++ f.literals ∷ [])
-AreLearnt-learnt first a b id f lemmas are given next fresh only =
+pub AreLearnt-learnt : (first : ℕ) (a b : ArenaView) (id : ℕ) (f : FlaggedClause) (lemmas : List Clause) → AreLearnt first a lemmas → b.given ≡ a.given + 1 → id ≡ a.given → clause_at a id ≡ None → ChangesOnly a b id (Some f) → IsNormal f.literals → AreLearnt first b (lemmas ++ f.literals ∷ [])
+AreLearnt-learnt first a b id f lemmas are given next fresh only sound =
     let size : length (lemmas ++ f.literals ∷ []) ≡ length lemmas + 1 = length_push lemmas f.literals in
     let many : first + length lemmas ≡ a.given = are.many in
     record {
@@ -50,6 +51,13 @@ AreLearnt-learnt first a b id f lemmas are given next fresh only =
             let at : get_or (lemmas ++ f.literals ∷ []) k d ≡ f.literals = ap (λ (n : ℕ). get_or (lemmas ++ f.literals ∷ []) n d) last ∙ get_or-append_right lemmas (f.literals ∷ []) (length lemmas) (length lemmas) d refl (omega arith) ∙ ap (λ (n : ℕ). get_or (f.literals ∷ []) n d) (let none : length lemmas - length lemmas ≡ 0 = omega arith in none) in
             let held : held_clause b (first + k) ≡ Some f.literals = ap (held_clause b) here ∙ ap (option_map (λ (h : FlaggedClause). h.literals)) (added-here a b id f fresh only) in
             (f.literals, held, subst (λ (c : Clause). SameLiterals c f.literals) (sym at) (SameLiterals-refl f.literals))
+      ];
+      normal = λ k d within. elim (cases_lt k (length lemmas)) [
+        | inl low ↦ subst IsNormal (sym (get_or_append_left lemmas (f.literals ∷ []) d k low)) (are.normal k d low)
+        | inr high ↦
+            let last : k ≡ length lemmas = omega (arith, high, within) in
+            let at : get_or (lemmas ++ f.literals ∷ []) k d ≡ f.literals = ap (λ (n : ℕ). get_or (lemmas ++ f.literals ∷ []) n d) last ∙ get_or-append_right lemmas (f.literals ∷ []) (length lemmas) (length lemmas) d refl (omega arith) ∙ ap (λ (n : ℕ). get_or (f.literals ∷ []) n d) (let none : length lemmas - length lemmas ≡ 0 = omega arith in none) in
+            subst IsNormal (sym at) sound
       ];
     }
 
@@ -108,6 +116,7 @@ module _ (start now : HeldView) (before by_now : Option Told) (lemmas : List Cla
   pub IsLimited-learnt : (limit : Option ℕ) → limit ≡ Some (length lemmas) → IsLimited start limit lemmas
   IsLimited-learnt limit many = record {
     many = many;
+    normal = are.normal;
     rule = record {
       implied = λ k d within s model.
           let p = are.each k d within in

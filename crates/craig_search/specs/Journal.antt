@@ -3,6 +3,7 @@ use Rattle.std.specs.Prelude.{◌≡◌, ℕ, ◌+◌, ◌-◌, ◌<◌, ◌≤�
 use Rattle.craig_spec.specs.Literal.{Clause}
 use Rattle.craig_spec.specs.Chain.{SameLiterals}
 use Rattle.craig_base.specs.Arena.{ArenaView}
+use Rattle.craig_base.specs.Clauses.{IsNormal}
 use Rattle.craig_watch.specs.Held.{HeldView, held_clause}
 use Rattle.craig_search.specs.declared.outcome.Outcome.{Outcome}
 use Rattle.craig_search.specs.declared.outcome.Outcome.TheVariants.{Model, Refuted, Failed, Limited}
@@ -23,6 +24,8 @@ pub record AreLearnt (first : ℕ) (a : ArenaView) (lemmas : List Clause) : Type
   pub many : first + length lemmas ≡ a.given
   -- it has the literals of the clause that is held under the id
   pub each : (k : ℕ) (d : Clause) → k < length lemmas → (c : Clause) × (held_clause a (first + k) ≡ Some c) × SameLiterals (slice_index_or lemmas k d) c
+  -- each of them once
+  pub normal : (k : ℕ) (d : Clause) → k < length lemmas → IsNormal (slice_index_or lemmas k d)
 
 -- the clause is held under the next id, so that it is the next lemma
 abbrev pub LearnsNext : HeldView → HeldView → Clause → Type 0

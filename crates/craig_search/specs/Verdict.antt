@@ -7,6 +7,7 @@ use Rattle.craig_spec.specs.Literal.{Literal, Clause}
 use Rattle.craig_spec.specs.Truth.{AreContradictory}
 use Rattle.craig_base.specs.declared.script_part.Part.{Part}
 use Rattle.craig_base.specs.Arena.{clauses_of}
+use Rattle.craig_base.specs.Clauses.{IsNormal}
 use Rattle.craig_base.specs.LemmaRule.{MeetsLemmaRule}
 use Rattle.craig_watch.specs.declared.value.Value.TheVariants.{True}
 use Rattle.craig_watch.specs.Trail.{IsAssigned, value_under}
@@ -55,6 +56,8 @@ pub record IsLimited (h : HeldView) (limit : Option ℕ) (lemmas : List Clause) 
   pub many : limit ≡ Some (length lemmas)
   -- they meet the rule
   pub rule : MeetsLemmaRule (clauses_of h.arena) lemmas
+  -- no literal stands in one of them twice
+  pub normal : All IsNormal lemmas
 
 -- what the verdict says of the clauses that were held, and of the trail
 abbrev pub IsVerdict : HeldView → HeldView → Assumptions → Option ℕ → Verdict → Type 0

@@ -111,7 +111,7 @@ answer-cases accepted h n assumptions limit verdict.Model (answer.Limit lemmas) 
 answer-cases accepted h n assumptions limit (verdict.Failed root places) a ok are left is for =
     subst (IsAnswer (accepted_clauses accepted) h.vars assumptions limit) (sym for) (is.first_places, λ s model. is.contradictory s (held-model accepted h.arena h.vars ok are s model))
 answer-cases accepted h n assumptions limit (verdict.Limit lemmas) a ok are left is for =
-    subst (IsAnswer (accepted_clauses accepted) h.vars assumptions limit) (sym for) (is.many, rule-searched accepted h.arena h.vars lemmas ok are is.rule)
+    subst (IsAnswer (accepted_clauses accepted) h.vars assumptions limit) (sym for) (is.many, rule-searched accepted h.arena h.vars lemmas ok are is.rule, is.normal)
 
 -- the answer is right of the accepted clauses, whatever they and the number of variables are called
 pub IsAnswer-searched : (accepted same : List (Part × Clause)) (h n : HeldView) (vars : ℕ) (assumptions : Assumptions) (limit : Option ℕ) (v : Verdict) (a : Answer) → accepted ≡ same → h.vars ≡ vars → IsArena h.arena → AreHeldFor accepted h.arena h.vars → Leaves h n → IsVerdict h n assumptions limit v → IsAnswerFor n v a → IsAnswer (accepted_clauses same) vars assumptions limit a

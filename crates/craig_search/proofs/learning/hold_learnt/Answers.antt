@@ -3,6 +3,7 @@ use Rattle.std.specs.Option.{ForSome}
 use Rattle.std.proofs.lemmas.Result.{IfOk-from_err}
 use Rattle.craig_spec.specs.Literal.{Clause}
 use Rattle.craig_spec.specs.Chain.{ChainOk, Derived, IsUnforgotten, antecedents}
+use Rattle.craig_base.specs.Clauses.{IsNormal}
 use Rattle.craig_proof.specs.Tracer.{chain_of}
 use Rattle.craig_proof.specs.declared.step.Step.{Step}
 use Rattle.craig_watch.specs.Held.{HeldView, MayBeHeld, held_clause}
@@ -47,7 +48,7 @@ pub returns-clause-listed : goal.returns-clause-listed
 returns-clause-listed g c = λ first lemmas are.
     let old = c.args.held.now in
     let given : c.hold.new.self.arena.given ≡ old.arena.given + 1 = ap (λ (h : HeldView). h.arena.given) c.in_ok-id.ensures.held in
-    subst (λ (d : Clause). AreLearnt first c.hold.new.self.arena (lemmas ++ d ∷ [])) c.as_slice-lits.ensures (AreLearnt-learnt first old.arena c.hold.new.self.arena c.in_ok-id.id.0 _ lemmas are given c.in_ok-id.ensures.next c.in_ok-id.ensures.fresh c.in_ok-id.ensures.only)
+    subst (λ (d : Clause). AreLearnt first c.hold.new.self.arena (lemmas ++ d ∷ [])) c.as_slice-lits.ensures (AreLearnt-learnt first old.arena c.hold.new.self.arena c.in_ok-id.id.0 _ lemmas are given c.in_ok-id.ensures.next c.in_ok-id.ensures.fresh c.in_ok-id.ensures.only (subst IsNormal (sym c.as_slice-lits.ensures) c.requires.derived.normal))
 
 pub returns-clause-covers : goal.returns-clause-covers
 returns-clause-covers g c =

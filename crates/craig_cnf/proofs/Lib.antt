@@ -1,0 +1,15 @@
+mod TextWordLemmas
+mod VariableLemmas
+mod OrderLemmas
+mod ScriptClauseLemmas
+mod DimacsReadingLemmas
+mod CnfReadingLemmas
+mod GateClausesLemmas
+mod OccurrenceLemmas
+mod LayoutReadingLemmas
+mod LayoutCircuitLemmas
+mod ConjunctionLemmas
+mod ExtensionLemmas
+mod DimacsRoundTripLemmas
+mod AppendingLemmas
+mod GateOperandLemmas

@@ -8,7 +8,7 @@ use Rattle.std.proofs.lemmas.Bool.Decides.{nat_tests}
 use Rattle.std.proofs.lemmas.List.{get_or_default, length-map}
 use Rattle.std.proofs.lemmas.List.Elements.{Contains-get_or}
 use Rattle.std.proofs.lemmas.Option.{get_or_from_slice_get, slice_get-get_or, slice_get_within}
-use Rattle.craig_spec.specs.Circuit.{Gate, HasOperands, IsReached, Output}
+use Rattle.craig_spec.specs.Circuit.{Gate, HasOperands, IsCircuit, IsReached, Output, variable_count}
 use Rattle.craig_spec.specs.CircuitCnf.{CircuitClauses, NamedRoot, Operands, Root, circuit_defined, circuit_literal, circuit_with, is_root_before, literal_of_root, occurs_in_text, read_cnf, script_variables, variable_of_root}
 use Rattle.craig_spec.specs.CircuitCnf as cnf
 use Rattle.craig_spec.specs.CircuitCnfText.{gates_clauses}
@@ -242,6 +242,16 @@ module _ (top : ℕ) (l : Layout) (h : IsWritable l) (bound : All (λ x. x ≤ t
   defined : circuit_defined top said ≡ Some (circuit_of l)
   unfolding circuit_defined
   defined = rw (gates_read (top + 1) text_gates (are_before top l h bound), roots_ok) (ap Some (ap (λ xs. circuit_with top xs text_gates said.roots) variables_are ∙ circuit_is))
+
+  -- it is a circuit
+  pub layout_is_circuit : IsCircuit (circuit_of l)
+  layout_is_circuit = record {
+    operands = λ j g is. let s = h.strict.operands j g is in (s.2, omega (arith, s.1, s.2));
+    literals = λ k d within.
+        let m = Contains-from_image to_output l.outputs (get_or (map to_output l.outputs) k d) (Contains-get_or (map to_output l.outputs) k d within) in
+        let small : m.0.1 / 2 < variable_count (circuit_of l) = omega (arith, output_small m.0 m.1, length-map l.gates to_gate) in
+        subst (λ (p : Output). p.literal / 2 < variable_count (circuit_of l)) (sym m.2) small;
+  }
 
   -- and the text can be written
   root_word_by : (n : ℕ) (t : Bool) → nat_lt n 2 ≡ t → top < 2 ^ 32 → n < 2 * (1 + I + A) → IsRootVariable (text_root top l.inputs n)

@@ -13,3 +13,4 @@ mod ExtensionLemmas
 mod DimacsRoundTripLemmas
 mod AppendingLemmas
 mod GateOperandLemmas
+mod WorkedTextLemmas

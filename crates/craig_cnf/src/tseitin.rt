@@ -3,6 +3,7 @@
 //! The clauses are those of Tseitin, "On the complexity of derivation in propositional calculus", 1968.
 ghost use Rattle.std.specs.Prelude.{◌≡◌, ◌++◌, ◌+◌, ◌*◌, ◌<◌, ◌≤◌, ◌^◌, ◌==◌, All, Some, codes, length, map, max, OnErr, OnOk, if◌then◌else◌};
 ghost use Rattle.std.specs.List.{flat_map};
+ghost use Rattle.craig_spec.specs.Circuit.{IsCircuit, IsStrict};
 ghost use Rattle.craig_spec.specs.CircuitCnf.{greatest_of_roots, greatest_said, read_cnf, variable_of_root};
 ghost use Rattle.craig_spec.specs.CircuitCnfText.{gate_clauses, gates_clauses, root_line, root_text};
 ghost use Rattle.craig_spec.specs.DimacsText.{clause_line, header_bytes};
@@ -199,6 +200,8 @@ pub fn write_tseitin(layout: &Layout, top: u32, out: &mut Vec<u8>) -> Result<(),
     ensures text { OnOk result (out.new.items ≡ out.old.items ++ layout_text top layout.now) }
     ensures unchanged { OnErr result (out.new.items ≡ out.old.items) }
     ensures reads_back { read_cnf top (layout_text top layout.now) ≡ Some (circuit_of layout.now) }
+    ensures is_circuit { IsCircuit (circuit_of layout.now) }
+    ensures strict { IsStrict (circuit_of layout.now) }
 {
     // What holds of each layout is known from here on.
     let _ = layout.outputs();

@@ -95,7 +95,7 @@ fn append_output(
 
 /// The comment lines that name the roots of the outputs.
 fn append_outputs(out: &mut Vec<u8>, layout: &Layout, top: u32) -> Result<(), AllocError>
-    ensures text { OnOk result (out.new.items ≡ out.old.items ++ flat_map root_line (map (named_root top layout.now.inputs) layout.now.outputs)) }
+    ensures text { OnOk result (out.new.items ≡ out.old.items ++ flat_map root_line (layout_clauses top layout.now).roots) }
     ensures appends { AppendsOnly out.old.items out.new.items }
 {
     let inputs = layout.inputs();
@@ -119,7 +119,7 @@ fn root_variable(inputs: &[u32], top: u32, literal: u64) -> u64
 
 /// The greatest variable of the roots, and 0 where they have none.
 fn greatest_root(layout: &Layout, top: u32) -> u64
-    ensures { result ≡ greatest_of_roots (map (named_root top layout.now.inputs) layout.now.outputs) }
+    ensures { result ≡ greatest_of_roots (layout_clauses top layout.now).roots }
 {
     let inputs = layout.inputs();
     let mut greatest = 0;
@@ -162,7 +162,7 @@ fn append_gate(
 
 /// The clauses of the gates, whose variables are numbered from the one after `top` on.
 fn append_gates(out: &mut Vec<u8>, layout: &Layout, top: u32) -> Result<(), AllocError>
-    ensures text { OnOk result (out.new.items ≡ out.old.items ++ flat_map clause_line (gates_clauses (top + 1) (map (text_operands top layout.now.inputs) layout.now.gates))) }
+    ensures text { OnOk result (out.new.items ≡ out.old.items ++ flat_map clause_line (layout_clauses top layout.now).clauses) }
     ensures appends { AppendsOnly out.old.items out.new.items }
 {
     let inputs = layout.inputs();

@@ -19,7 +19,7 @@ fn a_name_prints_as_its_cut_after_its_letter(rt: HostRuntime) -> Result<(), Fail
 }
 
 /// The conjunction of the inputs of two named variables.
-fn both(aig: &mut Aig, names: &Names, left: Var, right: Var) -> Result<Edge, AllocError>
+pub(crate) fn both(aig: &mut Aig, names: &Names, left: Var, right: Var) -> Result<Edge, AllocError>
     requires left { left.0 < length names.now }
     requires right { right.0 < length names.now }
     ensures edge { IfOk result (λ e. e.place < length aig.new) }
@@ -31,7 +31,7 @@ fn both(aig: &mut Aig, names: &Names, left: Var, right: Var) -> Result<Edge, All
 }
 
 /// The layout of one output.
-fn of_one(
+pub(crate) fn of_one(
     alloc: Global,
     aig: &Aig,
     names: &Names,

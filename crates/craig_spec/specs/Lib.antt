@@ -12,3 +12,7 @@ pub mod FailedAssumptions
 pub mod Sequence
 pub mod Strength
 pub mod DrawnFromOneRefutation
+pub mod DimacsText
+pub mod Dimacs
+pub mod CircuitCnf
+pub mod CircuitCnfText

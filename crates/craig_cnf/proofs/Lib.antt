@@ -1,0 +1,16 @@
+mod TextWordLemmas
+mod VariableLemmas
+mod OrderLemmas
+mod ScriptClauseLemmas
+mod DimacsReadingLemmas
+mod CnfReadingLemmas
+mod GateClausesLemmas
+mod OccurrenceLemmas
+mod LayoutReadingLemmas
+mod LayoutCircuitLemmas
+mod ConjunctionLemmas
+mod ExtensionLemmas
+mod DimacsRoundTripLemmas
+mod AppendingLemmas
+mod GateOperandLemmas
+mod WorkedTextLemmas

@@ -1,0 +1,4 @@
+pub mod Appended
+pub mod ScriptClauses
+pub mod LayoutClauses
+pub mod Extension

@@ -1,4 +1,4 @@
-//! Rows of `craig_search`: a model, refutations, and assumptions that fail.
+//! Rows of `craig_search`: a model, refutations, assumptions that fail, and lemmas.
 //!
 //! A row is a function over what it was lent: where it returns early it lets nothing large go, and its proof is short.
 ghost use Rattle.std.specs.Prelude.{◌≡◌, ◌<◌, None, All};
@@ -140,5 +140,56 @@ fn a_literal_and_its_negation_fail_together(rt: HostRuntime) -> Result<(), Fail>
     let mut order = Order::new(rt.alloc());
     let root = root_of_opposite(rt.alloc(), &mut held, &mut order)?;
     assert!(rt; root.is_some());
+    Ok(())
+}
+
+/// Whether two clauses that propagation refutes are refuted under a limit, where no clause is learnt.
+fn is_refuted_by_propagation(
+    alloc: Global,
+    held: &mut Held,
+    order: &mut Order,
+) -> Result<bool, AllocError>
+    requires held { held.old ≡ nothing_held }
+    requires order { order.old ≡ nothing_known }
+{
+    grow(held, order, 1)?;
+    let v0 = Lit::new(Var(0), false);
+    held.hold(&[v0], FLAGS)?;
+    held.hold(&[v0.not()], FLAGS)?;
+    let verdict = search(alloc, held, order, &mut Silent, &[], Some(1))?;
+    Ok(matches!(verdict, Verdict::Failed { .. }))
+}
+
+#[test]
+fn a_conflict_at_level_0_is_no_lemma(rt: HostRuntime) -> Result<(), Fail> {
+    let mut held = Held::new(rt.alloc());
+    let mut order = Order::new(rt.alloc());
+    assert!(rt; is_refuted_by_propagation(rt.alloc(), &mut held, &mut order)?);
+    Ok(())
+}
+
+/// Whether the limit is met by the only lemma that two clauses have, which an assumption leads to.
+fn learns_lemma(alloc: Global, held: &mut Held, order: &mut Order) -> Result<bool, AllocError>
+    requires held { held.old ≡ nothing_held }
+    requires order { order.old ≡ nothing_known }
+{
+    grow(held, order, 2)?;
+    let v0 = Lit::new(Var(0), false);
+    let v1 = Lit::new(Var(1), false);
+    held.hold(&[v0, v1], FLAGS)?;
+    held.hold(&[v0, v1.not()], FLAGS)?;
+    let assumed = [(Part(1), v0.not())];
+    let verdict = search(alloc, held, order, &mut Silent, &assumed, Some(1))?;
+    let Verdict::Limit(lemmas) = verdict else {
+        return Ok(false);
+    };
+    Ok(lemmas.len() == 1 && lemmas.lemma(0) == [v0].as_slice())
+}
+
+#[test]
+fn a_lemma_meets_the_limit(rt: HostRuntime) -> Result<(), Fail> {
+    let mut held = Held::new(rt.alloc());
+    let mut order = Order::new(rt.alloc());
+    assert!(rt; learns_lemma(rt.alloc(), &mut held, &mut order)?);
     Ok(())
 }

@@ -2,7 +2,7 @@
 //!
 //! A row is a function over a solver that it was lent: where it returns early it lets nothing large go, and its proof is
 //! short.
-ghost use Rattle.std.specs.Prelude.{◌≡◌, ◌<◌, ◌≤◌, All, OnOk};
+ghost use Rattle.std.specs.Prelude.{◌≡◌, ◌+◌, ◌<◌, ◌≤◌, All, OnOk};
 
 use craig_base::{ClauseId, Lit, Part, Var};
 use craig_proof::{ChainStore, Silent, Tracer};
@@ -139,5 +139,91 @@ fn forgets_assumptions(alloc: Global, solver: &mut Solver<ChainStore>) -> Result
 fn assumptions_hold_for_one_search(rt: HostRuntime) -> Result<(), Fail> {
     let mut solver = Solver::new(rt.alloc(), ChainStore::new(rt.alloc()));
     assert!(rt; forgets_assumptions(rt.alloc(), &mut solver)?);
+    Ok(())
+}
+
+/// The number of lemmas, where a limit of one is met.
+fn lemmas(
+    solver: &mut Solver<Silent>,
+    assumptions: &[(Part, Lit)],
+) -> Result<Option<usize>, AllocError>
+    requires { All (λ a. a.1.var < solver.old.vars) assumptions.now }
+    ensures { solver.new.vars ≡ solver.old.vars }
+{
+    let Answer::Limit(lemmas) = solver.solve(assumptions, Some(1))? else {
+        return Ok(None);
+    };
+    Ok(Some(lemmas.len()))
+}
+
+/// Whether a lemma that an assumption led to stays held, so that the assumption fails without one more.
+fn keeps_lemma(solver: &mut Solver<Silent>) -> Result<bool, AllocError> {
+    let v0 = Lit::new(Var(0), false);
+    let v1 = Lit::new(Var(1), false);
+    reach(solver, 2)?;
+    solver.add(Part(1), &[v0, v1])?;
+    solver.add(Part(2), &[v0, v1.not()])?;
+    let assumed = [(Part(2), v0.not())];
+    let first = lemmas(solver, &assumed)?;
+    let again = solver.solve(&assumed, Some(1))?;
+    Ok(first == Some(1) && matches!(again, Answer::Failed { .. }))
+}
+
+#[test]
+fn lemmas_stay_held(rt: HostRuntime) -> Result<(), Fail> {
+    let mut solver = Solver::new(rt.alloc(), Silent);
+    assert!(rt; keeps_lemma(&mut solver)?);
+    Ok(())
+}
+
+/// Adds the clauses of five pigeons in four holes: variable 4p + h says that pigeon p is in hole h.
+fn add_pigeons(solver: &mut Solver<Silent>) -> Result<(), AllocError>
+    ensures { OnOk result (20 ≤ solver.new.vars) }
+{
+    reach(solver, 20)?;
+    for pigeon in 0..5 {
+        add_pigeon(solver, 4 * pigeon)?;
+    }
+    Ok(())
+}
+
+/// Adds the clauses of a pigeon whose variables are the four from this one on: it is in a hole where no earlier one is.
+fn add_pigeon(solver: &mut Solver<Silent>, first: u32) -> Result<(), AllocError>
+    requires known { first + 4 ≤ solver.old.vars }
+    requires pigeon { first ≤ 16 }
+    ensures { solver.new.vars ≡ solver.old.vars }
+{
+    let hole = |h: u32| Lit::new(Var(first + h), false);
+    solver.add(Part(1), &[hole(0), hole(1), hole(2), hole(3)])?;
+    for earlier in 0..first {
+        exclude(solver, first, earlier)?;
+    }
+    Ok(())
+}
+
+/// Adds the clause that keeps a pigeon out of the hole that a variable of an earlier one names.
+fn exclude(solver: &mut Solver<Silent>, first: u32, earlier: u32) -> Result<(), AllocError>
+    requires known { first + 4 ≤ solver.old.vars }
+    requires pigeon { first ≤ 16 }
+    requires before { earlier < first }
+    ensures { solver.new.vars ≡ solver.old.vars }
+{
+    let in_hole = Lit::new(Var(first + earlier % 4), true);
+    solver.add(Part(2), &[in_hole, Lit::new(Var(earlier), true)])
+}
+
+/// Whether pigeons and holes meet a limit of one lemma, also under an assumption, and are refuted without a limit.
+fn are_refuted_after_lemmas(solver: &mut Solver<Silent>) -> Result<bool, AllocError> {
+    add_pigeons(solver)?;
+    let first = lemmas(solver, &[])?;
+    let assumed = lemmas(solver, &[(Part(2), Lit::new(Var(0), false))])?;
+    let last = solver.solve(&[], None)?;
+    Ok(first == Some(1) && assumed == Some(1) && matches!(last, Answer::Failed { .. }))
+}
+
+#[test]
+fn pigeons_are_refuted_after_lemmas(rt: HostRuntime) -> Result<(), Fail> {
+    let mut solver = Solver::new(rt.alloc(), Silent);
+    assert!(rt; are_refuted_after_lemmas(&mut solver)?);
     Ok(())
 }

@@ -14,7 +14,7 @@ use Rattle.craig_spec.specs.Literal.{Literal, Clause, negation}
 use Rattle.craig_spec.specs.Chain.{SameLiterals}
 use Rattle.craig_base.specs.Clauses.{IsTautology, IsNormal, IsAscending, SameVariableAt}
 use Rattle.craig_base.specs.Literals.{literal_code}
-use Rattle.craig_base.proofs.LiteralsLemmas.{literal_code-injective, literal_code-near, negation-from_codes, negation-differs}
+use Rattle.craig_base.proofs.LiteralsLemmas.{literal_code-injective, literal_code-near, negation-from_codes, negation-from_differs, negation-differs}
 
 any_literal : Literal
 any_literal = record { var = 0; negated = false }
@@ -54,6 +54,12 @@ IsNormal-vars_apart c apart = record {
   distinct = λ i j d before within e. apart i j d before within (ap (λ (l : Literal). l.var) e);
   not_tautology = not_tautology-vars_apart c apart;
 }
+
+-- the way back
+pub vars_apart-IsNormal : (c : Clause) → IsNormal c → AllPairs (λ l m. l.var ≢ m.var) c
+vars_apart-IsNormal c normal i j d before within e =
+    let n : negation (get_or c i d) ≡ get_or c j d = negation-from_differs (get_or c i d) (get_or c j d) e (normal.distinct i j d before within) in
+    normal.not_tautology (get_or c i d, Contains-get_or c i d (omega arith), subst (Contains c) (sym n) (Contains-get_or c j d within))
 
 -- whether a clause is a tautology depends on its members alone
 pub IsTautology-SameLiterals : (c d : Clause) → SameLiterals c d → IsTautology c ↔ IsTautology d

@@ -7,14 +7,14 @@ use Rattle.std.specs.Int.RustNames.{unsigned_abs}
 use Rattle.craig_script.specs.declared.line.Line.{Line}
 use Rattle.craig_script.specs.declared.line.Line.TheVariants as line
 use Rattle.craig_script.specs.declared.command.Command.{Command}
-use Rattle.craig_script.specs.declared.command.Command.TheVariants.{Nothing, Parts, Add, System, Mark, Cuts, Solve}
+use Rattle.craig_script.specs.declared.command.Command.TheVariants.{Nothing, Parts, Add, System, Mark, Cuts, Limit, Solve}
 use Rattle.craig_script.specs.declared.cut_word.CutWord.TheVariants as cut
 use Rattle.craig_script.specs.declared.setting_words.MarkWord.{MarkWord}
 use Rattle.craig_script.specs.declared.setting_words.MarkWord.TheVariants as mark
 use Rattle.craig_script.specs.declared.setting_words.SystemWord.{SystemWord}
 use Rattle.craig_script.specs.declared.setting_words.SystemWord.TheVariants as system
 use Rattle.craig_script.specs.declared.refusal.Refusal.{Refusal}
-use Rattle.craig_script.specs.declared.refusal.Refusal.TheVariants.{Syntax, Overlong, Range, Variable, LateParts, CutRange}
+use Rattle.craig_script.specs.declared.refusal.Refusal.TheVariants.{Syntax, Overlong, Range, Variable, LateParts, LimitRange, CutRange}
 use Rattle.craig_script.specs.declared.refusal.LineFault.{LineFault}
 use Rattle.craig_script.specs.declared.refusal.LineFault.TheVariants.{Refused, NoMemory}
 use Rattle.craig_script.specs.Lines.{line_limit}
@@ -100,6 +100,10 @@ abbrev pub cuts_of : List (List ℕ) → Result Command Refusal
 cuts_of [] = Err Syntax
 cuts_of (w ∷ ws) = if bytes_eq w (codes "all") then then_nothing ws (Cuts cut.All) else (numbers_to_end (w ∷ ws) >>= λ ns. Ok (Cuts (cut.Chosen ns)))
 
+-- the word for no limit, or a number alone
+abbrev pub limit_of : List (List ℕ) → Result Command Refusal
+limit_of ws = only_word ws >>= λ w. if bytes_eq w (codes "none") then Ok (Limit None) else (or_syntax (number_of w) >>= λ n. Ok (Limit (Some n)))
+
 -- pairs of a part and a literal, and the end
 abbrev pub pairs_to_end : List (List ℕ) → Result (List (ℕ × ℤ)) Refusal
 pairs_to_end [] = Err Syntax
@@ -124,6 +128,7 @@ command_of (w ∷ ws) =
     else if bytes_eq w (codes "system") then system_of ws
     else if bytes_eq w (codes "mark") then mark_of ws
     else if bytes_eq w (codes "cuts") then cuts_of ws
+    else if bytes_eq w (codes "limit") then limit_of ws
     else if bytes_eq w (codes "solve") then solve_of ws
     else Err Syntax
 
@@ -148,6 +153,7 @@ variables_named (Add part lits) = map unsigned_abs lits
 variables_named (System s) = []
 variables_named (Mark name m) = name ∷ []
 variables_named (Cuts cuts) = []
+variables_named (Limit limit) = []
 variables_named (Solve pairs) = map (λ pair. unsigned_abs pair.1) pairs
 
 -- whether the number is from 1 to the limit
@@ -162,6 +168,7 @@ gives_parts (Add part lits) = false
 gives_parts (System s) = false
 gives_parts (Mark name m) = false
 gives_parts (Cuts cuts) = false
+gives_parts (Limit limit) = false
 gives_parts (Solve pairs) = false
 
 -- whether each part that the command names is from 0 to the number of parts, and a number of parts from 1 to the most
@@ -172,6 +179,7 @@ are_parts_within parts (Add part lits) = nat_le part parts
 are_parts_within parts (System s) = true
 are_parts_within parts (Mark name m) = true
 are_parts_within parts (Cuts cuts) = true
+are_parts_within parts (Limit limit) = true
 are_parts_within parts (Solve pairs) = list_all (λ pair. nat_le pair.0 parts) pairs
 
 -- a number that isn't negative
@@ -203,14 +211,32 @@ are_cuts_within parts (System s) = true
 are_cuts_within parts (Mark name m) = true
 are_cuts_within parts (Cuts cut.All) = true
 are_cuts_within parts (Cuts (cut.Chosen ns)) = are_rising_within 0 parts ns
+are_cuts_within parts (Limit limit) = true
 are_cuts_within parts (Solve pairs) = true
 
--- the tests on what a command names: whether it comes too late, its parts, its variables, its cuts
+-- the most that a conflict limit is
+abbrev pub limit_limit : ℕ
+limit_limit = 100000
+
+-- whether a conflict limit that the command gives is from 1 to the most
+abbrev pub is_limit_within : Command → Bool
+is_limit_within Nothing = true
+is_limit_within (Parts n) = true
+is_limit_within (Add part lits) = true
+is_limit_within (System s) = true
+is_limit_within (Mark name m) = true
+is_limit_within (Cuts cuts) = true
+is_limit_within (Limit None) = true
+is_limit_within (Limit (Some n)) = is_within limit_limit n
+is_limit_within (Solve pairs) = true
+
+-- the tests on what a command names: whether it comes too late, its parts, its variables, its limit, its cuts
 abbrev pub admitted : ℕ → Bool → Command → Result (Unit {0}) Refusal
 admitted parts any_clause command =
     if any_clause && gives_parts command then Err LateParts
     else if not (are_parts_within parts command) then Err Range
     else if not (list_all (is_within variable_limit) (variables_named command)) then Err Variable
+    else if not (is_limit_within command) then Err LimitRange
     else if not (are_cuts_within parts command) then Err CutRange
     else Ok tt
 

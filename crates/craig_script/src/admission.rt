@@ -3,7 +3,7 @@
 ghost use Rattle.std.specs.Prelude.{◌≡◌, ◌≤◌, nat_le, IfSome};
 ghost use Rattle.std.specs.List.{list_all};
 ghost use Rattle.std.specs.Int.RustNames.{unsigned_abs};
-ghost use Rattle.craig_script.specs.Reading.{admitted, are_cuts_within, are_parts_within, are_rising_within, gives_parts, natural, next_least, variables_named, is_within, variable_limit};
+ghost use Rattle.craig_script.specs.Reading.{admitted, are_cuts_within, are_parts_within, are_rising_within, gives_parts, is_limit_within, natural, next_least, variables_named, is_within, variable_limit};
 
 use crate::command::Command;
 use crate::cut_word::CutWord;
@@ -15,9 +15,12 @@ const VARIABLE_LIMIT: u64 = 2147483647;
 /// The most parts that a script has.
 const PART_LIMIT: u64 = 4096;
 
+/// The most that a conflict limit is.
+const LIMIT_LIMIT: u64 = 100000;
+
 /// Tests what a command names. A number of parts is refused where a clause was accepted. Then each part is to be from 0
-/// to `parts`, and a number of parts from 1 to 4096; then each variable from 1 to 2147483647; and then chosen cuts are to
-/// rise and be at most `parts`. It takes no memory.
+/// to `parts`, and a number of parts from 1 to 4096; then each variable from 1 to 2147483647; then a conflict limit from 1
+/// to 100000; and then chosen cuts are to rise and be at most `parts`. It takes no memory.
 pub fn admit(parts: u16, any_clause: bool, command: &Command) -> Result<(), Refusal>
     ensures { result ≡ admitted parts any_clause command.now }
 {
@@ -27,6 +30,8 @@ pub fn admit(parts: u16, any_clause: bool, command: &Command) -> Result<(), Refu
         Err(Refusal::Range)
     } else if !variables_are_within(VARIABLE_LIMIT, command) {
         Err(Refusal::Variable)
+    } else if !limit_is_within(command) {
+        Err(Refusal::LimitRange)
     } else if !cuts_are_within(parts, command) {
         Err(Refusal::CutRange)
     } else {
@@ -46,10 +51,24 @@ fn parts_are_within(parts: u64, command: &Command) -> bool
     ensures { result ≡ are_parts_within parts command.now }
 {
     match command {
-        Command::Nothing | Command::System(_) | Command::Mark { .. } | Command::Cuts(_) => true,
+        Command::Nothing
+        | Command::System(_)
+        | Command::Mark { .. }
+        | Command::Cuts(_)
+        | Command::Limit(_) => true,
         Command::Parts(count) => is_within(PART_LIMIT, *count),
         Command::Add { part, .. } => *part <= parts,
         Command::Solve(pairs) => each_part_is_within(parts, pairs.as_slice()),
+    }
+}
+
+/// Whether the conflict limit, where the command gives one, is from 1 to the most.
+fn limit_is_within(command: &Command) -> bool
+    ensures { result ≡ is_limit_within command.now }
+{
+    match command {
+        Command::Limit(Some(limit)) => is_within(LIMIT_LIMIT, *limit),
+        _ => true,
     }
 }
 
@@ -108,7 +127,11 @@ fn variables_are_within(limit: u64, command: &Command) -> bool
     ensures { result ≡ list_all (is_within limit) (variables_named command.now) }
 {
     match command {
-        Command::Nothing | Command::Parts(_) | Command::System(_) | Command::Cuts(_) => true,
+        Command::Nothing
+        | Command::Parts(_)
+        | Command::System(_)
+        | Command::Cuts(_)
+        | Command::Limit(_) => true,
         Command::Mark { name, .. } => is_within(limit, *name),
         Command::Add { lits, .. } => each_literal_is_within(limit, lits.as_slice()),
         Command::Solve(pairs) => each_assumption_is_within(limit, pairs.as_slice()),

@@ -20,6 +20,8 @@ pub enum Command {
     Mark { name: u64, mark: MarkWord },
     /// The cuts whose interpolants are written.
     Cuts(CutWord),
+    /// How many conflicts each later solve may meet, where there is a limit.
+    Limit(Option<u64>),
     /// Solve under these assumptions, each a part and a literal.
     Solve(Pairs),
 }

@@ -5,7 +5,7 @@
 ghost use Rattle.std.specs.Prelude.{◌≡◌, List, ℤ, [], ◌∷◌, Ok, Err, codes, IsTrue, IsErrAnd, IfNone, IfSome, slice_index, ◌==◌};
 ghost use Rattle.std.specs.Str.{bytes_eq};
 ghost use Rattle.craig_script.specs.Words.{words};
-ghost use Rattle.craig_script.specs.Reading.{IsParsedAs, IsNoMemory, parsed, command_of, add_of, solve_of, literals_to_end, is_comment, is_end, then_nothing, begins_list, begins_with_literal, begins_with_number, begins_with_part_and_literal, may_take_memory, parts_of, system_of, mark_of, cuts_of, numbers_to_end, pairs_to_end, only_word, system_named, mark_named};
+ghost use Rattle.craig_script.specs.Reading.{IsParsedAs, IsNoMemory, parsed, command_of, add_of, solve_of, literals_to_end, is_comment, is_end, then_nothing, begins_list, begins_with_literal, begins_with_number, begins_with_part_and_literal, may_take_memory, parts_of, system_of, mark_of, cuts_of, limit_of, numbers_to_end, pairs_to_end, only_word, system_named, mark_named};
 
 use crate::command::Command;
 use crate::cut_word::CutWord;
@@ -54,6 +54,8 @@ fn command(alloc: Global, line: &[u8]) -> Result<Command, LineFault>
         mark(rest)
     } else if is_word(word, b"cuts") {
         cuts(alloc, rest)
+    } else if is_word(word, b"limit") {
+        limit(rest)
     } else if is_word(word, b"solve") {
         solve(alloc, rest)
     } else {
@@ -141,6 +143,23 @@ fn cuts(alloc: Global, line: &[u8]) -> Result<Command, LineFault>
     }
     let chosen = numbers(alloc, line)?;
     Ok(Command::Cuts(CutWord::Chosen(chosen)))
+}
+
+/// The word for no limit, or a number of conflicts.
+fn limit(line: &[u8]) -> Result<Command, LineFault>
+    ensures read { IsParsedAs result (limit_of (words line.now)) }
+    ensures memory { IsErrAnd result IsNoMemory → ⊥ }
+{
+    let Some(word) = only_word(line) else {
+        return Err(LineFault::Refused(Refusal::Syntax));
+    };
+    if is_word(word, b"none") {
+        return Ok(Command::Limit(None));
+    }
+    let Some(limit) = number_in(word) else {
+        return Err(LineFault::Refused(Refusal::Syntax));
+    };
+    Ok(Command::Limit(Some(limit)))
 }
 
 /// The assumptions of a solve, and the end.

@@ -7,7 +7,7 @@ use std::alloc::AllocError;
 use thiserror::Error;
 
 /// Why a line is refused. Where several reasons stand, `Overlong` comes first, then `Syntax`, then `LateParts`, then
-/// `Range`, then `Variable`, then `CutRange`.
+/// `Range`, then `Variable`, then `LimitRange`, then `CutRange`.
 #[derive(Clone, Copy, Debug, PartialEq, Eq)]
 pub enum Refusal {
     /// The line isn't in the grammar.
@@ -20,6 +20,8 @@ pub enum Refusal {
     Variable,
     /// The number of parts is given after a clause was accepted.
     LateParts,
+    /// A conflict limit isn't from 1 to 100000.
+    LimitRange,
     /// A cut is above the number of parts, or isn't above the one before it.
     CutRange,
 }
@@ -35,6 +37,7 @@ impl Refusal {
             Refusal::Range => 3,
             Refusal::Variable => 4,
             Refusal::LateParts => 5,
+            Refusal::LimitRange => 6,
             Refusal::CutRange => 7,
         }
     }

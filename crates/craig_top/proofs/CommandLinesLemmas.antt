@@ -7,22 +7,22 @@ use Rattle.std.specs.Str.{bytes_eq}
 use Rattle.std.proofs.lemmas.Bool.{and_parts, eq-eqb, eqb-true}
 use Rattle.std.proofs.lemmas.Slice.Eq.{bytes_eq-Decides}
 use Rattle.craig_script.specs.declared.command.Command.{Command}
-use Rattle.craig_script.specs.declared.command.Command.TheVariants.{Nothing, Parts, Add, System, Mark, Cuts, Solve}
+use Rattle.craig_script.specs.declared.command.Command.TheVariants.{Nothing, Parts, Add, System, Mark, Cuts, Limit, Solve}
 use Rattle.craig_script.specs.declared.cut_word.CutWord.TheVariants as cut
 use Rattle.craig_script.specs.declared.setting_words.MarkWord.{MarkWord}
 use Rattle.craig_script.specs.declared.setting_words.SystemWord.{SystemWord}
 use Rattle.craig_script.specs.declared.line.Line.{Line}
 use Rattle.craig_script.specs.declared.line.Line.TheVariants as line
 use Rattle.craig_script.specs.declared.refusal.Refusal.{Refusal}
-use Rattle.craig_script.specs.declared.refusal.Refusal.TheVariants.{Syntax, Overlong, Range, Variable, LateParts, CutRange}
+use Rattle.craig_script.specs.declared.refusal.Refusal.TheVariants.{Syntax, Overlong, Range, Variable, LateParts, CutRange, LimitRange}
 use Rattle.craig_script.specs.Lines.{line_limit}
 use Rattle.craig_script.specs.NumberWords.{is_negated, literal_of, number_of, unless_zero}
-use Rattle.craig_script.specs.Reading.{◌>>=◌, add_of, admitted, are_cuts_within, are_parts_within, command_of, cuts_of, gives_parts, is_comment, is_end, is_within, literals_to_end, mark_named, mark_of, numbers_to_end, only_word, or_syntax, pairs_to_end, parsed, parts_of, solve_of, system_named, system_of, then_nothing, variable_limit, variables_named}
+use Rattle.craig_script.specs.Reading.{limit_of, is_limit_within, ◌>>=◌, add_of, admitted, are_cuts_within, are_parts_within, command_of, cuts_of, gives_parts, is_comment, is_end, is_within, literals_to_end, mark_named, mark_of, numbers_to_end, only_word, or_syntax, pairs_to_end, parsed, parts_of, solve_of, system_named, system_of, then_nothing, variable_limit, variables_named}
 use Rattle.craig_script.specs.Words.{words}
 use Rattle.craig_spec.specs.Cut.{PartClause}
 use Rattle.craig_spec.proofs.MemberLemmas.{Contains-image, list_all-member}
 use Rattle.craig_script.proofs.NumbersLemmas.{option_map-some}
-use Rattle.craig_top.specs.CommandLines.{AreInRange, ArePairsInRange, AreRisingCuts, add_words, all_cuts_words, cuts_words, mark_word, mark_words, parts_words, solve_words, system_word, system_words}
+use Rattle.craig_top.specs.CommandLines.{limit_words, IsLimitInRange, AreInRange, ArePairsInRange, AreRisingCuts, add_words, all_cuts_words, cuts_words, mark_word, mark_words, parts_words, solve_words, system_word, system_words}
 use Rattle.craig_top.specs.GivenState.{State, any_clause, reading}
 use Rattle.craig_top.proofs.AsReadLemmas.{as_read}
 use Rattle.craig_top.proofs.RisingCutsLemmas.{rising-cuts, within-cuts}
@@ -113,6 +113,7 @@ Worded (Parts n) ws = ws ≡ parts_words n
 Worded (Add part lits) ws = ws ≡ add_words part lits
 Worded (System s) ws = ws ≡ system_words s
 Worded (Mark name m) ws = ws ≡ mark_words name m
+Worded (Limit limit) ws = ws ≡ limit_words limit
 Worded (Cuts cut.All) ws = ws ≡ all_cuts_words
 Worded (Cuts (cut.Chosen zs)) ws = ws ≡ cuts_words zs
 Worded (Solve pairs) ws = ws ≡ solve_words pairs
@@ -125,13 +126,14 @@ late-ok false read r x e = (refl, e)
 
 -- an admitted command has passed each of them
 admitted-tests : (state : State) (c : Command) → admitted state.settings.parts (any_clause state.accepted) c ≡ Ok tt
-    → ((any_clause state.accepted && gives_parts c) ≡ false) × (are_parts_within state.settings.parts c ≡ true) × (list_all (is_within variable_limit) (variables_named c) ≡ true) × (are_cuts_within state.settings.parts c ≡ true)
+    → ((any_clause state.accepted && gives_parts c) ≡ false) × (are_parts_within state.settings.parts c ≡ true) × (list_all (is_within variable_limit) (variables_named c) ≡ true) × (are_cuts_within state.settings.parts c ≡ true) × (is_limit_within c ≡ true)
 admitted-tests state c e =
     let late = late-ok (any_clause state.accepted && gives_parts c) _ LateParts tt e in
     let parts = refused-ok (are_parts_within state.settings.parts c) _ Range tt late.1 in
     let variables = refused-ok (list_all (is_within variable_limit) (variables_named c)) _ Variable tt parts.1 in
-    let cuts = refused-ok (are_cuts_within state.settings.parts c) (Ok tt) CutRange tt variables.1 in
-    (late.0, parts.0, variables.0, cuts.0)
+    let limit = refused-ok (is_limit_within c) _ LimitRange tt variables.1 in
+    let cuts = refused-ok (are_cuts_within state.settings.parts c) (Ok tt) CutRange tt limit.1 in
+    (late.0, parts.0, variables.0, cuts.0, limit.0)
 
 -- no clause is accepted where the test says so
 no_clause : (accepted : List PartClause) → (any_clause accepted && true) ≡ false → accepted ≡ []
@@ -267,6 +269,18 @@ module _ (literal_form : (word : List ℕ) (z : ℤ) → literal_of word ≡ Som
   cuts-worded [] c e = absurd (cc)
   cuts-worded (w ∷ ws) c e = cuts-cases w ws c (bytes_eq w (codes "all")) refl e
 
+  limit-cases : (w : List ℕ) (c : Command) (none : Bool) → bytes_eq w (codes "none") ≡ none → cond none (Ok (Limit None)) (or_syntax (number_of w) >>= λ n. Ok (Limit (Some n))) ≡ Ok c → Worded c (codes "limit" ∷ (w ∷ []))
+  limit-cases w c true is e =
+      subst (λ d. Worded d (codes "limit" ∷ (w ∷ []))) (same_ok (Limit None) c e) (ap (λ v. codes "limit" ∷ (v ∷ [])) (same_word w (codes "none") is))
+  limit-cases w c false is e =
+      let one = bind-ok (or_syntax (number_of w)) (λ n. Ok (Limit (Some n))) c e in
+      subst (λ d. Worded d (codes "limit" ∷ (w ∷ []))) (same_ok (Limit (Some one.0)) c one.2) (ap (λ v. codes "limit" ∷ (v ∷ [])) (number_form w one.0 (or_syntax-ok (number_of w) one.0 one.1)))
+
+  limit-worded : (ws : List (List ℕ)) (c : Command) → limit_of ws ≡ Ok c → Worded c (codes "limit" ∷ ws)
+  limit-worded ws c e =
+      let one = bind-ok (only_word ws) (λ w. cond (bytes_eq w (codes "none")) (Ok (Limit None)) (or_syntax (number_of w) >>= λ n. Ok (Limit (Some n)))) c e in
+      subst (λ vs. Worded c (codes "limit" ∷ vs)) (sym (only-ok ws one.0 one.1)) (limit-cases one.0 c (bytes_eq one.0 (codes "none")) refl one.2)
+
   solve-worded : (ws : List (List ℕ)) (c : Command) → solve_of ws ≡ Ok c → Worded c (codes "solve" ∷ ws)
   solve-worded ws c e =
       let found = bind-ok (pairs_to_end ws) (λ pairs. Ok (Solve pairs)) c e in
@@ -290,8 +304,9 @@ module _ (literal_form : (word : List ℕ) (z : ℤ) → literal_of word ≡ Som
       (λ e. tested (codes "system") w ws (system_of ws) _ c (bytes_eq w (codes "system")) refl e (system-worded ws c)
       (λ e. tested (codes "mark") w ws (mark_of ws) _ c (bytes_eq w (codes "mark")) refl e (mark-worded ws c)
       (λ e. tested (codes "cuts") w ws (cuts_of ws) _ c (bytes_eq w (codes "cuts")) refl e (cuts-worded ws c)
+      (λ e. tested (codes "limit") w ws (limit_of ws) _ c (bytes_eq w (codes "limit")) refl e (limit-worded ws c)
       (λ e. tested (codes "solve") w ws (solve_of ws) _ c (bytes_eq w (codes "solve")) refl e (solve-worded ws c)
-      (λ e. absurd (cc))))))))
+      (λ e. absurd (cc)))))))))
 
   -- the words of a line that is read as a command
   worded : (state : State) (bytes : List ℕ) (c : Command) → reading state (line.Text bytes) ≡ Ok c → Worded c (words bytes)
@@ -337,6 +352,11 @@ module _ (literal_form : (word : List ℕ) (z : ℤ) → literal_of word ≡ Som
           within-cuts state.settings.parts zs tests.3,
         ),
       )
+
+  pub line_that_limits : (state : State) (bytes : List ℕ) (limit : Option ℕ) → reading state (line.Text bytes) ≡ Ok (Limit limit) → (words bytes ≡ limit_words limit) × IsLimitInRange limit
+  line_that_limits state bytes limit e =
+      let tests = admitted-tests state (Limit limit) (read-ok state (line.Text bytes) (Limit limit) e).1 in
+      (worded state bytes (Limit limit) e, λ n is. let both = and_parts _ _ (rw is at tests.4) in (leb-true 1 n both.0, leb-true n 100000 both.1))
 
   pub line_that_solves : (state : State) (bytes : List ℕ) (pairs : List (ℕ × ℤ)) → reading state (line.Text bytes) ≡ Ok (Solve pairs) → (words bytes ≡ solve_words pairs) × ArePairsInRange state.settings.parts pairs
   line_that_solves state bytes pairs e =

@@ -43,3 +43,4 @@ pub mod WrittenOutputsLemmas
 pub mod StrengthLemmas
 pub mod AssumptionLemmas
 pub mod PutBackLemmas
+pub mod LemmaReplyLemmas

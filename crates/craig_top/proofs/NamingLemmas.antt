@@ -49,6 +49,12 @@ pub named_literal-from : (names : List ℕ) (l : Literal) (variable name : ℕ) 
 named_literal-from names l variable name is at = ap (λ x. record { var = x; negated = l.negated }) (sym (get_or_from_slice_get names variable name 0 at) ∙ ap (slice_index names) is)
 
 -- one literal more is named
+pub named_clause-next : (names : List ℕ) (lits : Clause) (i : ℕ) (item : Literal) (before pushed : Clause) (l : Literal) → before ≡ named_clause names (take i lits) → i < length lits → item ≡ get_or lits i item → l ≡ named_literal names item → pushed ≡ before ++ l ∷ [] → pushed ≡ named_clause names (take (i + 1) lits)
+named_clause-next names lits i item before pushed l so within is named put =
+    put ∙ ap (λ c. c ++ l ∷ []) so ∙ ap (λ m. named_clause names (take i lits) ++ m ∷ []) named
+    ∙ sym (ap (named_clause names) (take_more lits i item within) ∙ map-append (named_literal names) (take i lits) (get_or lits i item ∷ []) ∙ ap (λ m. named_clause names (take i lits) ++ named_literal names m ∷ []) (sym is))
+
+-- one literal more is named
 pub named_clause-more : (names : List ℕ) (assumptions : List (Part × Literal)) (i : ℕ) (item : Part × Literal) (before pushed : Clause) (l : Literal) → before ≡ named_clause names (map (λ (a : Part × Literal). a.1) (take i assumptions))
     → i < length assumptions → item ≡ get_or assumptions i item → l ≡ named_literal names item.1 → pushed ≡ before ++ l ∷ [] → pushed ≡ named_clause names (map (λ (a : Part × Literal). a.1) (take (i + 1) assumptions))
 named_clause-more names assumptions i item before pushed l so within is named push =

@@ -1,5 +1,5 @@
 -- The reply where there is no model, from the refutation that a store keeps.
-use Rattle.std.proofs.Common.{◌≡◌, ◌∙◌, sym, ap, subst, refl, ℕ, zero, suc, ◌<◌, ◌≤◌, Bool, true, false, List, [], ◌∷◌, ◌++◌, append-nil, codes, length, map, nat_eq, slice_index, All, Some, IsTrue, Result, Ok, Err, OnOk, le-leb, arith, inl, inr}
+use Rattle.std.proofs.Common.{Option, ◌≡◌, ◌∙◌, sym, ap, subst, refl, ℕ, zero, suc, ◌<◌, ◌≤◌, Bool, true, false, List, [], ◌∷◌, ◌++◌, append-nil, codes, length, map, nat_eq, slice_index, All, Some, IsTrue, Result, Ok, Err, OnOk, le-leb, arith, inl, inr}
 use Rattle.std.proofs.lemmas.Bool.{and_from, and_parts, cases_Bool, eqb-true, eqb-false}
 use Rattle.std.proofs.lemmas.List.Elements.{All-contains, All-head, All-tail}
 use Rattle.craig_spec.specs.Literal.{Clause, Literal}
@@ -182,10 +182,10 @@ module _ (names : List ℕ) (differ : AreDifferent names) (accepted : List (Part
         laid.system_outputs.interpolants
         (subst (λ os. AreReadOf names laid.nodes reads.0 os (reads.0).outputs) laid.system_outputs.outputs_are (outputs-read names laid.nodes laid.outputs layout laid.laid_out laid.functions reads.0 reads.2))
 
-    pub refutation_reply : IsNeededPart t.steps root part → IsStrict (circuit_of layout) → (printed : List Literal) → printed ≡ named_clause names (map (λ (a : Part × Literal). a.1) failed) → ReadsAs layout (aag_text layout)
+    pub refutation_reply : (limit : Option ℕ) → IsNeededPart t.steps root part → IsStrict (circuit_of layout) → (printed : List Literal) → printed ≡ named_clause names (map (λ (a : Part × Literal). a.1) failed) → ReadsAs layout (aag_text layout)
         → (assumptions : List PartLiteral) → NamesFailed assumptions (named_assumptions names failed)
-        → IsRefutationBy names t.steps (Some root) (stored_state (record { parts = sides.parts; system = system; marks = marks; cuts = cuts }) names accepted) assumptions (failed_text printed ++ lined_bytes (codes "a") (aag_text layout))
-    refutation_reply needed strict printed is_printed reads assumptions names_failed =
+        → IsRefutationBy names t.steps (Some root) (stored_state (record { parts = sides.parts; system = system; marks = marks; cuts = cuts; limit = limit }) names accepted) assumptions (failed_text printed ++ lined_bytes (codes "a") (aag_text layout))
+    refutation_reply limit needed strict printed is_printed reads assumptions names_failed =
         let c = reads.0 in
         let read = read_back reads in
         let block : Block = record { letter = codes "a"; format = ascii_format; outputs = system_outputs cuts read.systems; bytes = aag_text layout } in

@@ -12,7 +12,7 @@ use Rattle.craig_aiger.specs.OutNames.{family_text}
 use Rattle.craig_aiger.specs.declared.family.Family.{Family}
 use Rattle.craig_aiger.specs.declared.out_name.OutName.{OutName}
 use Rattle.craig_script.specs.declared.command.Command.{Command}
-use Rattle.craig_script.specs.declared.command.Command.TheVariants.{Nothing, Parts, Add, System, Mark, Cuts, Solve}
+use Rattle.craig_script.specs.declared.command.Command.TheVariants.{Nothing, Parts, Add, System, Mark, Cuts, Limit, Solve}
 use Rattle.craig_script.specs.declared.line.Line.{Line}
 use Rattle.craig_script.specs.declared.cut_word.CutWord.{CutWord}
 use Rattle.craig_script.specs.declared.cut_word.CutWord.TheVariants as cut
@@ -26,7 +26,7 @@ use Rattle.craig_top.specs.ModelReply.{IsModelReply}
 use Rattle.craig_top.specs.Named.{bare_clauses}
 use Rattle.craig_top.specs.RefutationReply.{GivesInterpolants, IsRefutationReply, SystemLiterals, outputs_at, system_outputs}
 use Rattle.craig_top.specs.Reply.{Reply, RepliesToReading, assumptions_of}
-use Rattle.craig_top.specs.ReplyContents.{AreLiteralsOf, AreNamedBy, HasAccepted, HasCuts, HaveOutputs, IsDivided, IsMarkFor, IsTextOf, IsStrictText, PrintsModel, PrintsRefutation, with_mark, with_system}
+use Rattle.craig_top.specs.ReplyContents.{MayAnswer, with_limit, AreLiteralsOf, AreNamedBy, HasAccepted, HasCuts, HaveOutputs, IsDivided, IsMarkFor, IsTextOf, IsStrictText, PrintsModel, PrintsRefutation, with_mark, with_system}
 use Rattle.craig_top.specs.ReplyTexts.{failed_text, literals_text, refusal_text}
 use Rattle.craig_top.specs.WrittenSystems.{written_systems}
 use Rattle.craig_top.proofs.CircuitShapeLemmas.{all_are_used, gates_are_conjunctions, gates_stand_once, inputs_rise, operands_are_ordered, outputs_are_literals}
@@ -151,13 +151,19 @@ module _ (state : State) (line : Line) (text : List ℕ) where
   pub reply_to_cuts : Reply state line text → (cuts : CutWord) → reading state line ≡ Ok (Cuts cuts) → text ≡ codes "ok\n"
   reply_to_cuts reply cuts is = reply_to_reading reply (Ok (Cuts cuts)) is
 
+  pub reply_to_limit : Reply state line text → (limit : Option ℕ) → reading state line ≡ Ok (Limit limit) → text ≡ codes "ok\n"
+  reply_to_limit reply limit is = reply_to_reading reply (Ok (Limit limit)) is
+
   pub reply_to_add : Reply state line text → (part : ℕ) (lits : List ℤ) → reading state line ≡ Ok (Add part lits) → text ≡ codes "ok\n"
   reply_to_add reply part lits is = reply_to_reading reply (Ok (Add part lits)) is
 
-  pub reply_to_solve : Reply state line text → (pairs : List (ℕ × ℤ)) → reading state line ≡ Ok (Solve pairs) → PrintsModel state.accepted pairs text ⊎ IsRefutationReply state (assumptions_of pairs) text
+  pub reply_to_solve : Reply state line text → (pairs : List (ℕ × ℤ)) → reading state line ≡ Ok (Solve pairs) → MayAnswer state pairs text
   reply_to_solve reply pairs is = elim (reply_to_reading reply (Ok (Solve pairs)) is) [
     | inl model ↦ inl (model.0, model.2, subst (λ (cs : List Clause). IsModelReply cs model.0) (bare-assumed state.accepted pairs) model.1)
-    | inr refutation ↦ inr refutation
+    | inr other ↦ elim other [
+      | inl refutation ↦ inr (inl refutation)
+      | inr unknown ↦ inr (inr (unknown.lemmas, unknown.many, unknown.text_is, unknown.rule.implied))
+    ]
   ]
 
   pub reply_to_refused : Reply state line text → (refusal : Refusal) → reading state line ≡ Err refusal → text ≡ refusal_text refusal
@@ -174,7 +180,7 @@ module _ (state : State) (line : Line) where
   next_after_add part lits is = subst (HasAccepted state part lits) (sym (next_by_reading (Ok (Add part lits)) is)) (refl, refl)
 
   pub next_after_parts : (n : ℕ) → reading state line ≡ Ok (Parts n) → IsDivided state n (next state line)
-  next_after_parts n is = subst (IsDivided state n) (sym (next_by_reading (Ok (Parts n)) is)) (refl, refl, refl, refl, refl)
+  next_after_parts n is = subst (IsDivided state n) (sym (next_by_reading (Ok (Parts n)) is)) (refl, refl, refl, refl, refl, refl)
 
   pub next_after_system : (s : SystemWord) → reading state line ≡ Ok (System s) → next state line ≡ with_system state s
   next_after_system s is = next_by_reading (Ok (System s)) is
@@ -183,6 +189,9 @@ module _ (state : State) (line : Line) where
   next_after_mark name mark.A label stands is = next_by_reading (Ok (Mark name mark.A)) is ∙ ap (with_mark state name) (sym stands)
   next_after_mark name mark.Ab label stands is = next_by_reading (Ok (Mark name mark.Ab)) is ∙ ap (with_mark state name) (sym stands)
   next_after_mark name mark.B label stands is = next_by_reading (Ok (Mark name mark.B)) is ∙ ap (with_mark state name) (sym stands)
+
+  pub next_after_limit : (limit : Option ℕ) → reading state line ≡ Ok (Limit limit) → next state line ≡ with_limit state limit
+  next_after_limit limit is = next_by_reading (Ok (Limit limit)) is
 
   pub next_after_cuts : (w : CutWord) → reading state line ≡ Ok (Cuts w) → HasCuts state w (next state line)
   next_after_cuts cut.All is = next_by_reading (Ok (Cuts cut.All)) is

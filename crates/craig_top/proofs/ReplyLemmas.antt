@@ -1,9 +1,12 @@
 -- The texts of replies, appended piece by piece.
-use Rattle.std.proofs.Common.{◌≡◌, ◌∙◌, ap, ℕ, List, ◌++◌, append_assoc, length, codes, decimal, Result, Ok, Err, OnOk}
+use Rattle.std.proofs.Common.{◌≡◌, ◌∙◌, ap, sym, ℕ, List, [], ◌∷◌, ◌++◌, append_assoc, length, codes, decimal, Result, Ok, Err, OnOk}
+use Rattle.std.specs.List.{flat_map}
+use Rattle.std.proofs.lemmas.Grind.{flat_map-append}
+use Rattle.std.proofs.lemmas.List.{append-nil}
 use Rattle.craig_spec.specs.Literal.{Literal, Clause}
 use Rattle.craig_top.specs.Blocks.{lined_bytes}
 use Rattle.craig_top.specs.ModelReply.{IsModelReply}
-use Rattle.craig_top.specs.ReplyTexts.{satisfiable_text}
+use Rattle.craig_top.specs.ReplyTexts.{lemma_text, satisfiable_text}
 
 -- a text in two pieces
 pub appended-two : {T E : Type 0} (r : Result T E) (one two begun first last : List ℕ) → first ≡ begun ++ one → OnOk r (last ≡ first ++ two) → OnOk r (last ≡ begun ++ (one ++ two))
@@ -24,3 +27,11 @@ pub model-appended : {T E : Type 0} (r : Result T E) (clauses : List Clause) (li
     → OnOk r ((ls : List Literal) × IsModelReply clauses ls × (new ≡ old ++ satisfiable_text ls))
 model-appended (Ok x) clauses literals old new reply put = (literals, reply, put)
 model-appended (Err x) clauses literals old new reply put = tt
+
+-- ---- lemmas
+
+-- one lemma more is printed
+pub lemma-listed : (old line : List ℕ) (named : List Clause) (n : Clause) (mid new : List ℕ) → mid ≡ old ++ (line ++ flat_map lemma_text named) → new ≡ mid ++ lemma_text n → new ≡ old ++ (line ++ flat_map lemma_text (named ++ n ∷ []))
+lemma-listed old line named n mid new so put =
+    put ∙ ap (λ bs. bs ++ lemma_text n) so ∙ append_assoc old (line ++ flat_map lemma_text named) (lemma_text n)
+    ∙ ap (λ bs. old ++ bs) (append_assoc line (flat_map lemma_text named) (lemma_text n) ∙ ap (λ bs. line ++ bs) (ap (λ bs. flat_map lemma_text named ++ bs) (sym (append-nil (lemma_text n))) ∙ sym (flat_map-append lemma_text named (n ∷ []))))

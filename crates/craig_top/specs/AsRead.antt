@@ -1,7 +1,7 @@
 -- What holds of each command that a line is read as.
 use Rattle.std.specs.Prelude.{◌≢◌, []}
 use Rattle.craig_script.specs.declared.command.Command.{Command}
-use Rattle.craig_script.specs.declared.command.Command.TheVariants.{Nothing, Parts, Add, System, Mark, Cuts, Solve}
+use Rattle.craig_script.specs.declared.command.Command.TheVariants.{Nothing, Parts, Add, System, Mark, Cuts, Limit, Solve}
 use Rattle.craig_script.specs.declared.cut_word.CutWord.TheVariants as cut
 
 -- where cuts are chosen there is one
@@ -13,4 +13,5 @@ IsAsRead (System system) = Unit {0}
 IsAsRead (Mark name mark) = Unit {0}
 IsAsRead (Cuts cut.All) = Unit {0}
 IsAsRead (Cuts (cut.Chosen numbers)) = numbers ≢ []
+IsAsRead (Limit limit) = Unit {0}
 IsAsRead (Solve pairs) = Unit {0}

@@ -1,5 +1,5 @@
 -- Which words a line of a script has that is a command.
-use Rattle.std.specs.Prelude.{ℕ, ◌≤◌, List, [], ◌∷◌, ◌++◌, Contains, codes, map, ℤ, pos, ◌≡◌, ◌≢◌, Ok}
+use Rattle.std.specs.Prelude.{ℕ, ◌≤◌, List, [], ◌∷◌, ◌++◌, Contains, codes, map, ℤ, pos, Option, Some, None, ◌≡◌, ◌≢◌, Ok}
 use Rattle.std.specs.List.{flat_map}
 use Rattle.std.specs.List.Sorted.{IsStrictlyIncreasing}
 use Rattle.std.specs.Fmt.{decimal, signed_decimal}
@@ -10,7 +10,7 @@ use Rattle.craig_script.specs.declared.setting_words.MarkWord.{MarkWord}
 use Rattle.craig_script.specs.declared.setting_words.MarkWord.TheVariants as mark
 use Rattle.craig_script.specs.declared.setting_words.SystemWord.{SystemWord}
 use Rattle.craig_script.specs.declared.setting_words.SystemWord.TheVariants as system
-use Rattle.craig_script.specs.declared.command.Command.TheVariants.{Parts, Add, System, Mark, Cuts, Solve}
+use Rattle.craig_script.specs.declared.command.Command.TheVariants.{Parts, Add, System, Mark, Cuts, Limit, Solve}
 use Rattle.craig_top.specs.GivenState.{State, reading}
 
 -- the words that add the clause of these numbers to the part
@@ -64,6 +64,15 @@ all_cuts_words = codes "cuts" ∷ (codes "all" ∷ [])
 abbrev pub cuts_words : List ℤ → List (List ℕ)
 cuts_words cuts = codes "cuts" ∷ map signed_decimal cuts
 
+-- the words that set the conflict limit, or that there is none
+abbrev pub limit_words : Option ℕ → List (List ℕ)
+limit_words None = codes "limit" ∷ (codes "none" ∷ [])
+limit_words (Some n) = codes "limit" ∷ (decimal n ∷ [])
+
+-- a limit is from 1 to 100000
+abbrev pub IsLimitInRange : Option ℕ → Type 0
+IsLimitInRange limit = (n : ℕ) → limit ≡ Some n → (1 ≤ n) × (n ≤ 100000)
+
 -- each cut is above the one before it, and at most the number of parts
 abbrev pub AreRisingCuts : ℕ → List ℤ → Type 0
 AreRisingCuts parts cuts = (cuts ≢ []) × IsStrictlyIncreasing (map unsigned_abs cuts) × ((z : ℤ) → Contains cuts z → (n : ℕ) × (z ≡ pos n) × (n ≤ parts))
@@ -83,6 +92,10 @@ EachMarkLine Says = (state : State) (bytes : List ℕ) (name : ℕ) (m : MarkWor
 -- and as chosen cuts: of the state, the bytes and the cuts
 abbrev pub EachCutsLine : (State → List ℕ → List ℤ → Type 0) → Type 0
 EachCutsLine Says = (state : State) (bytes : List ℕ) (cuts : List ℤ) → reading state (Text bytes) ≡ Ok (Cuts (cut.Chosen cuts)) → Says state bytes cuts
+
+-- and as a limit: of the bytes and the limit
+abbrev pub EachLimitLine : (List ℕ → Option ℕ → Type 0) → Type 0
+EachLimitLine Says = (state : State) (bytes : List ℕ) (limit : Option ℕ) → reading state (Text bytes) ≡ Ok (Limit limit) → Says bytes limit
 
 -- what is said holds of each line that is read in a state as an addition: of the state, the bytes, the part and the numbers
 abbrev pub EachAddLine : (State → List ℕ → ℕ → List ℤ → Type 0) → Type 0

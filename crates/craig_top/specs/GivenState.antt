@@ -1,5 +1,5 @@
 -- What the accepted lines of a script have said so far.
-use Rattle.std.specs.Prelude.{ℕ, ◌+◌, Bool, true, false, List, [], ◌∷◌, ◌++◌, map, Result, Ok, Err, ℤ, pos, negsuc}
+use Rattle.std.specs.Prelude.{ℕ, ◌+◌, Bool, true, false, List, [], ◌∷◌, ◌++◌, map, Option, None, Result, Ok, Err, ℤ, pos, negsuc}
 use Rattle.std.specs.Int.RustNames.{unsigned_abs}
 use Rattle.craig_spec.specs.Literal.{Literal}
 use Rattle.craig_spec.specs.Cut.{PartClause, all_cuts}
@@ -11,7 +11,7 @@ use Rattle.craig_script.specs.declared.setting_words.MarkWord.TheVariants as mar
 use Rattle.craig_script.specs.declared.setting_words.SystemWord.{SystemWord}
 use Rattle.craig_script.specs.declared.line.Line.{Line}
 use Rattle.craig_script.specs.declared.command.Command.{Command}
-use Rattle.craig_script.specs.declared.command.Command.TheVariants.{Nothing, Parts, Add, System, Mark, Cuts, Solve}
+use Rattle.craig_script.specs.declared.command.Command.TheVariants.{Nothing, Parts, Add, System, Mark, Cuts, Limit, Solve}
 use Rattle.craig_script.specs.declared.refusal.Refusal.{Refusal}
 use Rattle.craig_script.specs.Reading.{read_line}
 use Rattle.craig_top.specs.declared.settings.Settings.{Settings}
@@ -26,6 +26,8 @@ pub record ScriptSettings : Type 0 where
   pub marks : List (ℕ × Label)
   -- the cuts whose interpolants are written, in order
   pub cuts : List ℕ
+  -- how many conflicts a solve may meet, where there is a limit
+  pub limit : Option ℕ
 
 -- the given state
 pub record State : Type 0 where
@@ -34,13 +36,13 @@ pub record State : Type 0 where
   -- the accepted clauses as they were written, over script variables, first to last
   pub accepted : List PartClause
 
--- so many parts and a system, where no variable has a mark and no cut was chosen
+-- so many parts and a system, where no variable has a mark, no cut was chosen and there is no limit
 abbrev pub unmarked : ℕ → SystemWord → ScriptSettings
-unmarked parts system = record { parts = parts; system = system; marks = []; cuts = all_cuts parts }
+unmarked parts system = record { parts = parts; system = system; marks = []; cuts = all_cuts parts; limit = None }
 
--- before the first line: two parts and no clause
+-- before the first line: two parts, the settings of the start and no clause
 abbrev pub start : Settings → State
-start settings = record { settings = unmarked 2 settings.system; accepted = [] }
+start settings = record { settings = record (unmarked 2 settings.system) { limit = settings.limit }; accepted = [] }
 
 -- the literal that a signed number of the script stands for
 abbrev pub script_literal : ℤ → Literal
@@ -70,6 +72,7 @@ set settings (Parts n) = record settings { parts = n; cuts = all_cuts n }
 set settings (Add part lits) = settings
 set settings (System system) = record settings { system = system }
 set settings (Mark name word) = record settings { marks = settings.marks ++ (name, label_named word) ∷ [] }
+set settings (Limit limit) = record settings { limit = limit }
 set settings (Cuts word) = record settings { cuts = cuts_named settings.parts word }
 set settings (Solve pairs) = settings
 
@@ -81,6 +84,7 @@ accept accepted (Add part lits) = accepted ++ record { part = part; clause = map
 accept accepted (System system) = accepted
 accept accepted (Mark name word) = accepted
 accept accepted (Cuts word) = accepted
+accept accepted (Limit limit) = accepted
 accept accepted (Solve pairs) = accepted
 
 -- what an admitted command changes

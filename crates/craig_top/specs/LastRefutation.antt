@@ -5,9 +5,10 @@ use Rattle.craig_spec.specs.Cut.{PartLiteral}
 use Rattle.craig_spec.specs.Needed.{IsNeededPart}
 use Rattle.craig_script.specs.declared.line.Line.{Line}
 use Rattle.craig_script.specs.declared.command.Command.{Command}
-use Rattle.craig_script.specs.declared.command.Command.TheVariants.{Nothing, Parts, Add, System, Mark, Cuts, Solve}
+use Rattle.craig_script.specs.declared.command.Command.TheVariants.{Nothing, Parts, Add, System, Mark, Cuts, Limit, Solve}
 use Rattle.craig_script.specs.declared.refusal.Refusal.{Refusal}
 use Rattle.craig_top.specs.GivenState.{State, reading}
+use Rattle.craig_top.specs.LemmaReply.{IsUnknownReply}
 use Rattle.craig_top.specs.Named.{named_step}
 use Rattle.craig_top.specs.RefutationReply.{IsRefutationReply}
 use Rattle.craig_top.specs.Reply.{GivesModel, assumptions_of}
@@ -44,9 +45,9 @@ pub record IsOfLastRoot (names : List ℕ) (kept : List ToldStep) (last : Option
 abbrev pub IsRefutationBy : (names : List ℕ) → (kept : List ToldStep) → (last : Option ℕ) → State → List PartLiteral → List ℕ → Type 0
 IsRefutationBy names kept last state assumptions text = (reply : IsRefutationReply state assumptions text) × IsOfLastRoot names kept last reply.gives.interpolants.drawn.steps reply.gives.interpolants.drawn.root
 
--- the reply gives a model, or so refutes
+-- the reply gives a model, so refutes, or lists lemmas
 abbrev pub IsSolveReplyBy : (names : List ℕ) → (kept : List ToldStep) → (last : Option ℕ) → State → List (ℕ × ℤ) → List ℕ → Type 0
-IsSolveReplyBy names kept last state pairs text = GivesModel state pairs text ⊎ IsRefutationBy names kept last state (assumptions_of pairs) text
+IsSolveReplyBy names kept last state pairs text = GivesModel state pairs text ⊎ (IsRefutationBy names kept last state (assumptions_of pairs) text ⊎ IsUnknownReply state text)
 
 -- the reply to a solve is such a verdict
 abbrev pub IsByLastRoot : SessionView → State → Command → List ℕ → Type 0
@@ -56,6 +57,7 @@ IsByLastRoot view state (Add part lits) text = Unit {0}
 IsByLastRoot view state (System system) text = Unit {0}
 IsByLastRoot view state (Mark name mark) text = Unit {0}
 IsByLastRoot view state (Cuts cuts) text = Unit {0}
+IsByLastRoot view state (Limit limit) text = Unit {0}
 IsByLastRoot view state (Solve pairs) text = IsSolveReplyBy view.names view.steps view.root state pairs text
 
 -- so is the reply to a line that is a solve

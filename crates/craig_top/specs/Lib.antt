@@ -35,3 +35,4 @@ pub mod TrueParts
 pub mod Values
 pub mod WrittenOutputs
 pub mod WrittenSystems
+pub mod LemmaReply

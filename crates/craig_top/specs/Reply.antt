@@ -4,9 +4,10 @@ use Rattle.craig_spec.specs.Literal.{Literal}
 use Rattle.craig_spec.specs.Cut.{PartLiteral, with_units}
 use Rattle.craig_script.specs.declared.line.Line.{Line}
 use Rattle.craig_script.specs.declared.command.Command.{Command}
-use Rattle.craig_script.specs.declared.command.Command.TheVariants.{Nothing, Parts, Add, System, Mark, Cuts, Solve}
+use Rattle.craig_script.specs.declared.command.Command.TheVariants.{Nothing, Parts, Add, System, Mark, Cuts, Limit, Solve}
 use Rattle.craig_script.specs.declared.refusal.Refusal.{Refusal}
 use Rattle.craig_top.specs.GivenState.{State, script_literal, reading}
+use Rattle.craig_top.specs.LemmaReply.{IsUnknownReply}
 use Rattle.craig_top.specs.ModelReply.{IsModelReply}
 use Rattle.craig_top.specs.Named.{bare_clauses}
 use Rattle.craig_top.specs.RefutationReply.{IsRefutationReply}
@@ -20,9 +21,9 @@ assumptions_of pairs = map (λ pair. record { part = pair.0; literal = script_li
 abbrev pub GivesModel : State → List (ℕ × ℤ) → List ℕ → Type 0
 GivesModel state pairs text = (literals : List Literal) × IsModelReply (bare_clauses (with_units state.accepted (assumptions_of pairs))) literals × (text ≡ satisfiable_text literals)
 
--- the text gives a model, or refutes the clauses and the assumptions
+-- the text gives a model, refutes the clauses and the assumptions, or lists as many lemmas as the limit
 abbrev pub IsSolveReply : State → List (ℕ × ℤ) → List ℕ → Type 0
-IsSolveReply state pairs text = GivesModel state pairs text ⊎ IsRefutationReply state (assumptions_of pairs) text
+IsSolveReply state pairs text = GivesModel state pairs text ⊎ (IsRefutationReply state (assumptions_of pairs) text ⊎ IsUnknownReply state text)
 
 -- the text is allowed as the reply to a command
 abbrev pub RepliesTo : State → Command → List ℕ → Type 0
@@ -32,6 +33,7 @@ RepliesTo state (Add part lits) text = text ≡ ok_text
 RepliesTo state (System system) text = text ≡ ok_text
 RepliesTo state (Mark name mark) text = text ≡ ok_text
 RepliesTo state (Cuts cuts) text = text ≡ ok_text
+RepliesTo state (Limit limit) text = text ≡ ok_text
 RepliesTo state (Solve pairs) text = IsSolveReply state pairs text
 
 -- a refused line is answered by its number

@@ -1,11 +1,12 @@
 -- What the bytes of a refuting reply are, and what a line does to the given state.
-use Rattle.std.specs.Prelude.{◌≡◌, ◌≢◌, ℕ, ◌+◌, Result, List, [], ◌∷◌, ◌++◌, length, map, codes, Some, None, slice_get, ℤ, ◌⊎◌, decimal, Ok, Contains}
+use Rattle.std.specs.Prelude.{◌≡◌, ◌≢◌, ℕ, ◌+◌, Result, List, [], ◌∷◌, ◌++◌, length, map, codes, Option, Some, None, All, IsTrue, slice_get, ℤ, ◌⊎◌, decimal, Ok, Contains}
 use Rattle.std.specs.Int.RustNames.{unsigned_abs}
 use Rattle.std.specs.List.{flat_map, range_with_len}
 use Rattle.craig_spec.specs.AigerReading.{read_aag}
 use Rattle.craig_spec.specs.Circuit.{Circuit, Output}
 use Rattle.craig_spec.specs.Cut.{PartClause, PartLiteral, with_units}
-use Rattle.craig_spec.specs.Literal.{Literal}
+use Rattle.craig_spec.specs.Literal.{Literal, Clause}
+use Rattle.craig_spec.specs.Truth.{Implies, clause_value}
 use Rattle.craig_spec.specs.PartialInterpolant.{Label, A, AB, B}
 use Rattle.craig_spec.specs.Strength.{IsOrderedByStrength}
 use Rattle.craig_aiger.specs.AsciiText.{aag_text}
@@ -30,7 +31,7 @@ use Rattle.craig_script.specs.declared.refusal.Refusal.{Refusal}
 use Rattle.craig_script.specs.declared.command.Command.TheVariants.{Add, Mark}
 use Rattle.craig_script.specs.declared.setting_words.SystemWord.{SystemWord}
 use Rattle.craig_script.specs.declared.setting_words.SystemWord.TheVariants as word
-use Rattle.craig_script.specs.declared.refusal.Refusal.TheVariants.{Syntax, Overlong, Range, Variable, LateParts, CutRange}
+use Rattle.craig_script.specs.declared.refusal.Refusal.TheVariants.{Syntax, Overlong, Range, Variable, LateParts, LimitRange, CutRange}
 use Rattle.craig_top.specs.RefutationReply.{IsRefutationReply, SystemLiterals}
 use Rattle.craig_top.specs.WrittenSystems.{WrittenSystem, label_of_mark}
 use Rattle.craig_top.specs.Reply.{Reply, assumptions_of}
@@ -61,10 +62,10 @@ abbrev pub PrintsModel : List PartClause → List (ℕ × ℤ) → List ℕ → 
 PrintsModel accepted pairs text = (literals : List Literal) × (text ≡ codes "s SATISFIABLE\nv " ++ literals_text literals)
     × IsModelReply (map (λ (a : PartClause). a.clause) accepted ++ map (λ (pair : ℕ × ℤ). script_literal pair.1 ∷ []) pairs) literals
 
--- two parts, the system, no mark, all cuts and no clause
-abbrev pub StartsWith : SystemWord → State → Type 0
-StartsWith system state =
-    (state.settings.parts ≡ 2) × (state.settings.system ≡ system) × (state.settings.marks ≡ []) × (state.settings.cuts ≡ 0 ∷ 1 ∷ 2 ∷ []) × (state.accepted ≡ [])
+-- two parts, the system, no mark, all cuts, the limit and no clause
+abbrev pub StartsWith : SystemWord → Option ℕ → State → Type 0
+StartsWith system limit state =
+    (state.settings.parts ≡ 2) × (state.settings.system ≡ system) × (state.settings.marks ≡ []) × (state.settings.cuts ≡ 0 ∷ 1 ∷ 2 ∷ []) × (state.settings.limit ≡ limit) × (state.accepted ≡ [])
 
 -- the clause of these numbers is accepted last, with its part, and nothing else changes
 abbrev pub HasAccepted : State → ℕ → List ℤ → State → Type 0
@@ -74,9 +75,15 @@ HasAccepted before part lits after = (after.settings ≡ before.settings) × (af
 abbrev pub PrintsRefutation : List ℕ → List PartLiteral → List ℕ → Type 0
 PrintsRefutation text failed bytes = text ≡ codes "s UNSATISFIABLE\nf " ++ literals_text (map (λ (f : PartLiteral). f.literal) failed) ++ codes "a " ++ decimal (length bytes) ++ codes "\n" ++ bytes
 
--- the text prints a model of the accepted clauses and the assumed literals, or refutes them
+-- the text prints as many clauses as the limit, which the accepted clauses imply
+abbrev pub PrintsLemmas : State → List ℕ → Type 0
+PrintsLemmas state text = (lemmas : List Clause) × (state.settings.limit ≡ Some (length lemmas))
+    × (text ≡ codes "s UNKNOWN " ++ decimal (length lemmas) ++ codes "\n" ++ flat_map (λ c. codes "l " ++ literals_text c) lemmas)
+    × All (λ c. Implies (map (λ (a : PartClause). a.clause) state.accepted) (λ s. IsTrue (clause_value s c))) lemmas
+
+-- the text prints a model of the accepted clauses and the assumed literals, refutes them, or prints lemmas
 abbrev pub MayAnswer : State → List (ℕ × ℤ) → List ℕ → Type 0
-MayAnswer state pairs text = PrintsModel state.accepted pairs text ⊎ IsRefutationReply state (assumptions_of pairs) text
+MayAnswer state pairs text = PrintsModel state.accepted pairs text ⊎ (IsRefutationReply state (assumptions_of pairs) text ⊎ PrintsLemmas state text)
 
 -- the literal in front of others is printed as these bytes and a space, in front of what the others are printed as
 abbrev pub IsPrintedFirst : Literal → List ℕ → Type 0
@@ -85,7 +92,7 @@ IsPrintedFirst literal bytes = (literals : List Literal) → literals_text (lite
 -- the refusals are printed as these lines
 abbrev pub RefusalsAreNumbered : Type 0
 RefusalsAreNumbered =
-    (refusal_text Syntax ≡ codes "e 1\n") × (refusal_text Overlong ≡ codes "e 2\n") × (refusal_text Range ≡ codes "e 3\n") × (refusal_text Variable ≡ codes "e 4\n") × (refusal_text LateParts ≡ codes "e 5\n") × (refusal_text CutRange ≡ codes "e 7\n")
+    (refusal_text Syntax ≡ codes "e 1\n") × (refusal_text Overlong ≡ codes "e 2\n") × (refusal_text Range ≡ codes "e 3\n") × (refusal_text Variable ≡ codes "e 4\n") × (refusal_text LateParts ≡ codes "e 5\n") × (refusal_text LimitRange ≡ codes "e 6\n") × (refusal_text CutRange ≡ codes "e 7\n")
 
 -- what is said holds of each text of a circuit in AIGER's ASCII form: of the outputs, the bytes and the circuit
 abbrev pub EachText : (List (OutName × ℕ) → List ℕ → Circuit → Type 0) → Type 0
@@ -138,7 +145,7 @@ EachDrawnSystem Says = EachRefutingReply (λ state assumptions text reply. (y : 
 -- there are so many parts and all cuts are chosen, and nothing else changes
 abbrev pub IsDivided : State → ℕ → State → Type 0
 IsDivided before n after =
-    (after.settings.parts ≡ n) × (after.settings.cuts ≡ range_with_len 0 (n + 1)) × (after.settings.system ≡ before.settings.system) × (after.settings.marks ≡ before.settings.marks) × (after.accepted ≡ before.accepted)
+    (after.settings.parts ≡ n) × (after.settings.cuts ≡ range_with_len 0 (n + 1)) × (after.settings.system ≡ before.settings.system) × (after.settings.marks ≡ before.settings.marks) × (after.settings.limit ≡ before.settings.limit) × (after.accepted ≡ before.accepted)
 
 -- the state with another system
 abbrev pub with_system : State → SystemWord → State
@@ -147,6 +154,10 @@ with_system state s = record state { settings = record state.settings { system =
 -- the state with a mark more
 abbrev pub with_mark : State → ℕ → Label → State
 with_mark state name label = record state { settings = record state.settings { marks = state.settings.marks ++ (name, label) ∷ [] } }
+
+-- the state with another limit
+abbrev pub with_limit : State → Option ℕ → State
+with_limit state limit = record state { settings = record state.settings { limit = limit } }
 
 -- the cuts are all or those of these numbers, and nothing else changes
 abbrev pub HasCuts : State → CutWord → State → Type 0

@@ -1,7 +1,7 @@
 -- The texts of replies, byte by byte.
-use Rattle.std.specs.Prelude.{ℕ, List, [], ◌++◌, codes, decimal, if◌then◌else◌}
+use Rattle.std.specs.Prelude.{ℕ, List, [], ◌++◌, codes, decimal, length, if◌then◌else◌}
 use Rattle.std.specs.List.{flat_map}
-use Rattle.craig_spec.specs.Literal.{Literal}
+use Rattle.craig_spec.specs.Literal.{Literal, Clause}
 use Rattle.craig_script.specs.declared.refusal.Refusal.{Refusal}
 use Rattle.craig_script.specs.Refusals.{number_of_refusal}
 use Rattle.craig_top.specs.Blocks.{Block, blocks_text}
@@ -25,6 +25,18 @@ failed_text failed = codes "s UNSATISFIABLE\nf " ++ literals_text failed
 -- the reply where there is no model: the literals of the failed assumptions, and then the blocks
 abbrev pub unsatisfiable_text : List Literal → List Block → List ℕ
 unsatisfiable_text failed blocks = failed_text failed ++ blocks_text blocks
+
+-- the line of a lemma
+abbrev pub lemma_text : Clause → List ℕ
+lemma_text lemma = codes "l " ++ literals_text lemma
+
+-- the first line of the reply where the limit was met: how many lemmas come
+abbrev pub unknown_line : ℕ → List ℕ
+unknown_line count = codes "s UNKNOWN " ++ decimal count ++ codes "\n"
+
+-- the reply where the limit was met: the lemmas, a line each
+abbrev pub unknown_text : List Clause → List ℕ
+unknown_text lemmas = unknown_line (length lemmas) ++ flat_map lemma_text lemmas
 
 -- the reply to a line that is refused
 abbrev pub refusal_text : Refusal → List ℕ

@@ -1,5 +1,5 @@
 -- How a session keeps the given state.
-use Rattle.std.specs.Prelude.{◌≡◌, Ok, ℕ, ◌≤◌, Bool, List, length, map, Option, Some, None}
+use Rattle.std.specs.Prelude.{◌≡◌, ◌≢◌, Ok, ℕ, ◌≤◌, Bool, List, length, map, Option, Some, None}
 use Rattle.std.specs.Option.{option_map}
 use Rattle.craig_spec.specs.Cut.{AreChosenCuts, all_cuts}
 use Rattle.craig_spec.specs.PartialInterpolant.{Label}
@@ -33,7 +33,7 @@ labels marks = map (λ (m : ℕ × Mark). (m.0, label_of m.1)) marks
 
 -- the settings of so many parts and these choices
 abbrev pub settings_of : ℕ → Choices → ScriptSettings
-settings_of parts c = record { parts = parts; system = c.system; marks = labels c.marks.items; cuts = written_cuts parts (option_map (λ cuts. cuts.items) c.cuts) }
+settings_of parts c = record { parts = parts; system = c.system; marks = labels c.marks.items; cuts = written_cuts parts (option_map (λ cuts. cuts.items) c.cuts); limit = c.limit }
 
 -- the given state of what is stored
 abbrev pub given_state : Stored → State
@@ -77,3 +77,5 @@ pub record IsKept (s : Stored) : Type 0 where
   pub together : AreStoredTogether s.names s.sides s.solver.accepted s.solver.vars
   -- the cuts that are written rise, and are of the parts
   pub chosen : AreChosenCuts s.sides.parts (settings_of s.sides.parts s.choices).cuts
+  -- a limit isn't 0
+  pub limited : s.choices.limit ≢ Some 0

@@ -22,10 +22,12 @@ pub struct Choices {
     pub marks: Vec<(u32, Mark)>,
     /// The cuts whose interpolants are written, where not all are.
     pub cuts: Option<Vec<u16>>,
+    /// How many conflicts a solve may meet, where there is a limit.
+    pub limit: Option<u64>,
 }
 
 impl Choices {
-    /// Pudlák's system, no mark and all cuts. It takes no memory.
+    /// Pudlák's system, no mark, all cuts and no limit. It takes no memory.
     pub fn new(alloc: Global) -> Choices
         ensures { (parts : ℕ) → settings_of parts result ≡ unmarked parts SystemWord.Pudlak }
     {
@@ -33,6 +35,7 @@ impl Choices {
             system: SystemWord::Pudlak,
             marks: Vec::new(alloc),
             cuts: None,
+            limit: None,
         }
     }
 }

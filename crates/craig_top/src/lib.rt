@@ -12,6 +12,7 @@ mod assumptions;
 mod choices;
 mod clause;
 pub mod laws;
+mod lemmas;
 mod material;
 mod model;
 mod refutation;

@@ -5,7 +5,7 @@ ghost use Rattle.craig_aiger.specs.AsciiText.{aag_text};
 ghost use Rattle.craig_aiger.specs.RoundTrip.{ReadsAs};
 ghost use Rattle.craig_top.specs.Appended.{AppendsOnly};
 ghost use Rattle.craig_top.specs.Blocks.{lined_bytes};
-ghost use Rattle.craig_top.specs.ReplyTexts.{literal_text, literals_text, failed_text, satisfiable_text, ok_text, refusal_text};
+ghost use Rattle.craig_top.specs.ReplyTexts.{literal_text, literals_text, failed_text, lemma_text, unknown_line, satisfiable_text, ok_text, refusal_text};
 
 use craig_aiger::{Form, Layout};
 use craig_base::Lit;
@@ -45,6 +45,25 @@ pub fn append_unsatisfiable(out: &mut Vec<u8>, failed: &[Lit]) -> Result<(), All
     out.extend_from_slice(b"s UNSATISFIABLE\nf ")?;
     append_literals(out, failed)?;
     Ok(())
+}
+
+/// The beginning of the reply where the limit was met: the number of lemmas. Their lines come behind it.
+pub fn append_unknown(out: &mut Vec<u8>, count: u64) -> Result<(), AllocError>
+    ensures text { OnOk result (out.new.items ≡ out.old.items ++ unknown_line count) }
+    ensures appends { AppendsOnly out.old.items out.new.items }
+{
+    out.extend_from_slice(b"s UNKNOWN ")?;
+    append_number(out, count)?;
+    out.extend_from_slice(b"\n")
+}
+
+/// The line of a lemma, whose literals are over script variables.
+pub fn append_lemma(out: &mut Vec<u8>, literals: &[Lit]) -> Result<(), AllocError>
+    ensures text { OnOk result (out.new.items ≡ out.old.items ++ lemma_text literals.now) }
+    ensures appends { AppendsOnly out.old.items out.new.items }
+{
+    out.extend_from_slice(b"l ")?;
+    append_literals(out, literals)
 }
 
 /// The block of the interpolants: the text of their circuit, behind the letter and the number of its bytes.

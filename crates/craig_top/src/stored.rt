@@ -20,6 +20,7 @@ ghost use Rattle.craig_top.specs.AsRead.{IsAsRead};
 use crate::assumptions::{assumptions_at, dense_assumptions};
 use crate::choices::{Choices, chosen_cuts, mark_of};
 use crate::clause::dense_clause;
+use crate::lemmas::append_lemmas;
 use crate::material::Material;
 use crate::refutation::append_refutation;
 use crate::reply::{OK_SIZE, append_ok, append_refusal};
@@ -146,6 +147,10 @@ impl Stored {
                 self.choices.marks.push((name as u32, mark_of(mark)))?;
                 Ok(())
             }
+            Command::Limit(limit) => {
+                self.choices.limit = limit;
+                Ok(())
+            }
             Command::Cuts(CutWord::All) => {
                 self.choices.cuts = None;
                 Ok(())
@@ -205,7 +210,7 @@ impl Stored {
         let _ = self.sides.parts();
         let assumptions = dense_assumptions(self.alloc, &mut self.names, pairs)?;
         self.solver.reach(self.names.len())?;
-        let answer = self.solver.solve(&assumptions, None)?;
+        let answer = self.solver.solve(&assumptions, self.choices.limit)?;
         match &answer {
             Answer::Model(values) => append_values(
                 self.alloc,
@@ -219,8 +224,7 @@ impl Stored {
                 let failed = assumptions_at(self.alloc, &assumptions, places)?;
                 self.refute(&failed, *root, out)
             }
-            // without a limit none is met
-            Answer::Limit(_) => unreachable!(),
+            Answer::Limit(lemmas) => append_lemmas(self.alloc, &self.names, lemmas, out),
         }
     }
 

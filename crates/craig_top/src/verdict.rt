@@ -44,7 +44,7 @@ pub fn append_values(
 }
 
 /// Puts the literals in order of their variables.
-fn sort_by_variable(literals: &mut [Lit])
+pub fn sort_by_variable(literals: &mut [Lit])
     ensures permutation { IsPermutation literals.old literals.new }
     ensures sorted { IsNonDecreasing (map (λ l. l.var) literals.new) }
 {

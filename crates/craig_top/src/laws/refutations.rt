@@ -6,6 +6,7 @@ ghost use Rattle.craig_spec.specs.DrawnFromOneRefutation.{IsRefutationOf};
 ghost use Rattle.craig_spec.specs.Literal.{Clause, Literal, negation};
 ghost use Rattle.craig_spec.specs.Truth.{IsUnsatisfiable};
 ghost use Rattle.craig_top.specs.DrawnSteps.{AllAreByTheRules, AreAlong, AreInOrder, AreNeededOnes, ClashOnlyOn, DerivedAreResolved, DerivedFollow, EachChain, EachDrawn, EachLastRoot, EachRefutation, EachRefutationBy, EachSolveByLastRoot, EndInTheEmptyClause, FollowsFrom, HasAllBut, HasNoOther, IdsRise, IsEmptyOne, IsRefutingBy, OriginalsAreClauses, OriginalsAreNormal};
+ghost use Rattle.craig_top.specs.LemmaReply.{IsUnknownReply};
 ghost use Rattle.craig_top.specs.Reply.{GivesModel};
 
 /// Two clauses clash on the pivot of their resolvent alone. It has all their other literals and no more, and is true
@@ -51,11 +52,11 @@ pub fn values_from_one_refutation()
 
 /// The steps that a session's interpolants are drawn from are those of its kept steps that its last root needs, in
 /// order and over the variables of the script. The last root is an empty clause among them. So is the reply to a line
-/// that is a solve, unless it gives a model.
+/// that is a solve, unless it gives a model or lists lemmas.
 pub fn steps_of_the_last_root()
     ensures last { EachLastRoot (λ names kept last steps root. last ≡ Some root) }
     ensures needed { EachLastRoot (λ names kept last steps root. AreNeededOnes names kept root steps) }
     ensures order { EachLastRoot (λ names kept last steps root. AreInOrder names kept steps) }
     ensures empty { EachRefutationBy (λ kept last. IsEmptyOne kept last) }
-    ensures solve { EachSolveByLastRoot (λ view state pairs text. GivesModel state pairs text ⊎ IsRefutingBy view state pairs text) }
+    ensures solve { EachSolveByLastRoot (λ view state pairs text. GivesModel state pairs text ⊎ (IsRefutingBy view state pairs text ⊎ IsUnknownReply state text)) }
 {}

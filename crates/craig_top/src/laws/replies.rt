@@ -1,11 +1,16 @@
 //! What replies say, what their bytes are, and what a line does to the given state.
 
-ghost use Rattle.std.specs.Prelude.{◌≡◌, ℕ, [], ◌++◌, List, Ok, Err, ℤ, true, codes, decimal, map, pos};
+ghost use Rattle.std.specs.Prelude.{◌≡◌, Option, Some, IsTrue, Contains, length, ℕ, [], ◌++◌, List, Ok, Err, ℤ, true, codes, decimal, map, pos};
 ghost use Rattle.craig_spec.specs.DrawnFromOneRefutation.{IsRefutationOf};
 ghost use Rattle.craig_spec.specs.PartialInterpolant.{Label, A, AB, B};
+ghost use Rattle.std.specs.List.Sorted.{IsStrictlyIncreasing};
+ghost use Rattle.craig_base.specs.LemmaRule.{ContainsClause, NoneMoreThanTwice};
+ghost use Rattle.craig_spec.specs.Literal.{Clause, Literal, negation};
+ghost use Rattle.craig_spec.specs.Occurs.{Occurs, occurs_in_clause};
+ghost use Rattle.craig_spec.specs.Truth.{Implies, clause_value};
 ghost use Rattle.craig_spec.specs.Strength.{ImplyInTurn};
 ghost use Rattle.craig_script.specs.declared.line.Line.{Line};
-ghost use Rattle.craig_script.specs.declared.command.Command.TheVariants.{Nothing, Parts, Add, System, Mark, Cuts, Solve};
+ghost use Rattle.craig_script.specs.declared.command.Command.TheVariants.{Nothing, Parts, Add, System, Mark, Cuts, Limit, Solve};
 ghost use Rattle.craig_script.specs.declared.cut_word.CutWord.{CutWord};
 ghost use Rattle.craig_script.specs.declared.setting_words.MarkWord.{MarkWord};
 ghost use Rattle.craig_script.specs.declared.refusal.Refusal.{Refusal};
@@ -14,7 +19,8 @@ ghost use Rattle.craig_top.specs.declared.settings.Settings.{Settings};
 ghost use Rattle.craig_top.specs.DrawnSteps.{AreByTheRules};
 ghost use Rattle.craig_top.specs.GivenState.{State, next, reading, script_literal, start};
 ghost use Rattle.craig_top.specs.RefutationReply.{AreNoHigher};
-ghost use Rattle.craig_top.specs.ReplyContents.{AreLiteralsOf, AreNamedBy, AreThree, AreThreeByStrength, EachAddition, EachDrawnSystem, EachMark, EachReading, EachRefutingReply, EachReply, EachReplyOfAll, EachReplySystem, EachText, EachTwoSystems, HasAccepted, HasCuts, HaveOutputs, IsAlone, IsDivided, IsLastMark, IsPrintedFirst, IsStrictText, IsTextOf, MayAnswer, PrintsRefutation, RefusalsAreNumbered, StartsWith, with_mark, with_system};
+ghost use Rattle.craig_top.specs.LemmaReply.{EachLemma, EachUnknownReply, IsLemmaText};
+ghost use Rattle.craig_top.specs.ReplyContents.{AreLiteralsOf, AreNamedBy, AreThree, AreThreeByStrength, EachAddition, EachDrawnSystem, EachMark, EachReading, EachRefutingReply, EachReply, EachReplyOfAll, EachReplySystem, EachText, EachTwoSystems, HasAccepted, HasCuts, HaveOutputs, IsAlone, IsDivided, IsLastMark, IsPrintedFirst, IsStrictText, IsTextOf, MayAnswer, PrintsRefutation, RefusalsAreNumbered, StartsWith, with_limit, with_mark, with_system};
 ghost use Rattle.craig_top.specs.ReplyTexts.{literals_text, refusal_text};
 ghost use Rattle.craig_top.specs.TrueParts.{AreFirstOnes, AreImplied, AreOfCuts, AreRefuted, AreTrueWith, FirstPlacesRise, HaveWith, ImplyLaterOnes, ReachSharedVariables};
 ghost use Rattle.craig_top.specs.WrittenSystems.{label_of_mark, systems_of, written_systems};
@@ -80,8 +86,21 @@ pub fn three_systems_by_strength()
     ensures { EachReplyOfAll (λ clauses settings c systems. AreThreeByStrength clauses settings c systems) }
 {}
 
+/// A reply that lists lemmas has as many as the limit. Each is true wherever the accepted clauses are, has variables of
+/// theirs alone, by rising number, no literal beside its negation, and contains none of them; none stands more than twice.
+pub fn lemmas_of_a_reply()
+    ensures text { EachUnknownReply (λ state text lemmas. IsLemmaText text lemmas) }
+    ensures many { EachUnknownReply (λ state text lemmas. state.settings.limit ≡ Some (length lemmas)) }
+    ensures few { EachUnknownReply (λ state text lemmas. NoneMoreThanTwice lemmas) }
+    ensures implied { EachLemma (λ accepted lemma. Implies accepted (λ s. IsTrue (clause_value s lemma))) }
+    ensures known { EachLemma (λ accepted lemma. (x : ℕ) → IsTrue (occurs_in_clause x lemma) → Occurs x accepted) }
+    ensures sound { EachLemma (λ accepted lemma. (l : Literal) → Contains lemma l → ¬ Contains lemma (negation l)) }
+    ensures new { EachLemma (λ accepted lemma. (c : Clause) → Contains accepted c → ¬ ContainsClause lemma c) }
+    ensures rising { EachLemma (λ accepted lemma. IsStrictlyIncreasing (map (λ l. l.var) lemma)) }
+{}
+
 /// The reply to a line is no text, `ok`, the number of a refusal, a model of the accepted clauses and the assumed
-/// literals, or a refutation of them, as the line is read in the state.
+/// literals, a refutation of them, or as many implied clauses as the limit, as the line is read in the state.
 pub fn replies_to_lines()
     ensures nothing { EachReply (λ state line text. reading state line ≡ Ok Nothing → text ≡ []) }
     ensures parts { EachReply (λ state line text. (n : ℕ) → reading state line ≡ Ok (Parts n) → text ≡ codes "ok\n") }
@@ -89,19 +108,21 @@ pub fn replies_to_lines()
     ensures system { EachReply (λ state line text. (s : SystemWord) → reading state line ≡ Ok (System s) → text ≡ codes "ok\n") }
     ensures mark { EachReply (λ state line text. (name : ℕ) (m : MarkWord) → reading state line ≡ Ok (Mark name m) → text ≡ codes "ok\n") }
     ensures cuts { EachReply (λ state line text. (cuts : CutWord) → reading state line ≡ Ok (Cuts cuts) → text ≡ codes "ok\n") }
+    ensures limit { EachReply (λ state line text. (limit : Option ℕ) → reading state line ≡ Ok (Limit limit) → text ≡ codes "ok\n") }
     ensures solve { EachReply (λ state line text. (pairs : List (ℕ × ℤ)) → reading state line ≡ Ok (Solve pairs) → MayAnswer state pairs text) }
     ensures refused { EachReply (λ state line text. (refusal : Refusal) → reading state line ≡ Err refusal → text ≡ refusal_text refusal) }
 {}
 
-/// Two parts, no mark, all cuts and no clause come before the first line. An added clause is accepted last, a
+/// Two parts, no mark, all cuts, the limit of the start and no clause come before the first line. An added clause is accepted last, a
 /// setting is set, where the number of parts sets the cuts too, and any other line changes nothing.
 pub fn states_after_lines()
-    ensures start { (settings : Settings) → StartsWith settings.system (start settings) }
+    ensures start { (settings : Settings) → StartsWith settings.system settings.limit (start settings) }
     ensures add { EachAddition (λ state part lits after. HasAccepted state part lits after) }
     ensures parts { EachReading (λ n. Ok (Parts n)) (λ state n after. IsDivided state n after) }
     ensures system { EachReading (λ s. Ok (System s)) (λ state s after. after ≡ with_system state s) }
     ensures mark { EachMark (λ state name label after. after ≡ with_mark state name label) }
     ensures cuts { EachReading (λ w. Ok (Cuts w)) (λ state w after. HasCuts state w after) }
+    ensures limit { EachReading (λ l. Ok (Limit l)) (λ state l after. after ≡ with_limit state l) }
     ensures nothing { (state : State) (line : Line) → reading state line ≡ Ok Nothing → next state line ≡ state }
     ensures solve { (state : State) (line : Line) (pairs : List (ℕ × ℤ)) → reading state line ≡ Ok (Solve pairs) → next state line ≡ state }
     ensures refused { (state : State) (line : Line) (refusal : Refusal) → reading state line ≡ Err refusal → next state line ≡ state }

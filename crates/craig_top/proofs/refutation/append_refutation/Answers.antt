@@ -63,5 +63,5 @@ returns-clause-reply c =
     let printed = c.deref.result.now in
     refutation-appended c.append_interpolants.result (ReadsAs layout (aag_text layout)) (IsRootReply m root) (failed_text printed ++ lined_bytes (codes "a") (aag_text layout)) _ _
     (refutation_reply names (AreDifferent-from_IsDistinct names c.requires.material.names.distinct) c.args.material.now.clauses.now c.args.material.now.failed.now c.requires.material.stored c.args.material.now.sides.now c.requires.material.sides_are t told root c.requires.rests needed.0 refuting c.requires.empty
-    values c.marks_by_strength.ensures agrees m.settings.cuts c.requires.material.chosen m.settings.system m.settings.marks laid.label laid.marks layout laid.laid needed.1 c.in_ok-circuit.ensures.strict printed (c.deref.ensures.value ∙ c.in_ok-failed.ensures))
+    values c.marks_by_strength.ensures agrees m.settings.cuts c.requires.material.chosen m.settings.system m.settings.marks laid.label laid.marks layout laid.laid m.settings.limit needed.1 c.in_ok-circuit.ensures.strict printed (c.deref.ensures.value ∙ c.in_ok-failed.ensures))
     c.append_interpolants.ensures.reads_back (appended-two c.append_interpolants.result (failed_text printed) (lined_bytes (codes "a") (aag_text layout)) _ _ _ c.in_ok-append_unsatisfiable.ensures.text c.append_interpolants.ensures.text)

@@ -7,4 +7,4 @@ line : (n : ℕ) → n < 10 → codes "e " ++ decimal n ++ codes "\n" ≡ codes 
 line n small = ap (λ ds. codes "e " ++ ds ++ codes "\n") (decimal_digit n small)
 
 pub returns-clause-refusals : goal.returns-clause-refusals
-returns-clause-refusals c = (line 1 (omega arith), line 2 (omega arith), line 3 (omega arith), line 4 (omega arith), line 5 (omega arith), line 7 (omega arith))
+returns-clause-refusals c = (line 1 (omega arith), line 2 (omega arith), line 3 (omega arith), line 4 (omega arith), line 5 (omega arith), line 6 (omega arith), line 7 (omega arith))

@@ -1,4 +1,4 @@
-use Rattle.craig_top.proofs.ReplyContentsLemmas.{next_after_add, next_after_cuts, next_after_mark, next_after_parts, next_after_system, next_after_nothing, next_after_refused, next_after_solve}
+use Rattle.craig_top.proofs.ReplyContentsLemmas.{next_after_add, next_after_cuts, next_after_limit, next_after_mark, next_after_parts, next_after_system, next_after_nothing, next_after_refused, next_after_solve}
 use Rattle.craig_top.proofs.laws.replies.states_after_lines.Goals as goal
 
 pub returns-clause-parts : goal.returns-clause-parts
@@ -24,3 +24,6 @@ returns-clause-solve c = next_after_solve
 
 pub returns-clause-refused : goal.returns-clause-refused
 returns-clause-refused c = next_after_refused
+
+pub returns-clause-limit : goal.returns-clause-limit
+returns-clause-limit c = next_after_limit

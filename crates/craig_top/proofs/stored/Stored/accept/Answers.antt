@@ -12,6 +12,7 @@ returns-clause-kept c = record {
       c.requires.kept.together c.in_ok-clause.ensures.grows c.in_ok-clause.ensures.over (rw (← c.as_slice-dense.ensures) c.in_ok-note_clause.ensures.noted) c.note_clause.ensures.is_sides c.requires.part
       (c.in_ok-add.ensures.added.accepted ∙ rw (c.in_ok-reach.ensures.accepted, c.as_slice-dense.ensures) refl) (c.in_ok-add.ensures.vars ∙ ap (λ (v : SolverView _). v.vars) c.in_ok-reach.ensures.reached ∙ ap (max c.args.self.now.solver.vars) c.len.ensures.value);
   chosen = subst (λ n. AreChosenCuts n (settings_of n c.args.self.now.choices).cuts) (sym c.note_clause.ensures.parts) c.requires.kept.chosen;
+  limited = c.requires.kept.limited;
 }
 
 pub returns-clause-state : goal.returns-clause-state

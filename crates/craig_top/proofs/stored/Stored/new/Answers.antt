@@ -1,4 +1,4 @@
-use Rattle.std.proofs.Common.{◌≡◌, [], List, ap, sym, subst, refl, arith}
+use Rattle.std.proofs.Common.{◌≡◌, ◌∙◌, None, Some, [], List, ap, sym, subst, refl, arith}
 use Rattle.craig_spec.specs.Cut.{AreChosenCuts}
 use Rattle.craig_spec.specs.Literal.{Clause}
 use Rattle.craig_base.specs.declared.script_part.Part.{Part}
@@ -21,4 +21,5 @@ returns-clause-kept c =
         known = omega (arith, unknown);
       };
       chosen = subst (λ (s : ScriptSettings). AreChosenCuts c.new-2.result.parts s.cuts) (sym (c.new-3.ensures c.new-2.result.parts)) (chosen-all c.new-2.result.parts);
+      limited = λ e. absurd (let none : c.new-3.result.limit ≡ None = ap (λ (s : ScriptSettings). s.limit) (c.new-3.ensures c.new-2.result.parts) in let no : None ≡ Some 0 = sym none ∙ e in cc);
     }

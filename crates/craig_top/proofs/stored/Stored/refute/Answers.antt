@@ -48,6 +48,7 @@ returns-clause-kept c =
         known = c.requires.kept.together.known;
       };
       chosen = subst (λ n. AreChosenCuts n (settings_of n c.args.self.now.choices).cuts) (sym same) c.requires.kept.chosen;
+      limited = c.requires.kept.limited;
     }
 
 pub returns-clause-reply : goal.returns-clause-reply

@@ -5,7 +5,7 @@ use Rattle.craig_spec.specs.Literal.{Clause}
 use Rattle.craig_base.specs.declared.script_part.Part.{Part}
 use Rattle.craig_proof.specs.declared.chain_store.ChainStore.{ChainStore}
 use Rattle.craig_search.specs.Verdict.{AreFirstPlaces, Assumptions, at_places, units}
-use Rattle.craig_solver.specs.Answer.{root_of_answer}
+use Rattle.craig_solver.specs.Answer.{IsAnswer, accepted_clauses, root_of_answer}
 use Rattle.craig_solver.specs.Solver.{SolverView}
 use Rattle.craig_solver.specs.Told.{IsRefutation}
 use Rattle.craig_spec.specs.Cut.{with_units}
@@ -20,9 +20,10 @@ use Rattle.craig_top.specs.Stored.{HaveNames, given_state, settings_of, stored_s
 use Rattle.craig_top.specs.Values.{IsOver}
 use Rattle.craig_top.proofs.AssumptionLemmas.{NamesFailed-named, assuming-named, first_places-within, literals, over-at_places, parts-at_places, parts-within}
 use Rattle.craig_top.proofs.NamedChainLemmas.{AreDifferent-from_IsDistinct}
+use Rattle.craig_top.proofs.LemmaReplyLemmas.{AreOver-lemmas}
 use Rattle.craig_top.proofs.ResultLemmas.{always}
 use Rattle.craig_top.proofs.StoredLemmas.{AreStoredTogether-grown, HaveNames-grows, given_state-same, stored_state-grown}
-use Rattle.craig_top.proofs.VerdictLemmas.{RestsOn-told, assumed-known, failed-places, failed-told, model-reply, model-stored, refuted-reply}
+use Rattle.craig_top.proofs.VerdictLemmas.{RestsOn-told, assumed-known, failed-places, failed-told, model-reply, model-stored, refuted-reply, unknown-reply}
 use Rattle.craig_top.proofs.stored.Stored.solve.Goals as goal
 
 pub dense_assumptions-requires-clause-parts : goal.dense_assumptions-requires-clause-parts
@@ -38,14 +39,14 @@ append_values-requires-clause-assumed c = subst (λ (xs : Assumptions). IsOver (
 
 pub append_values-requires-clause-values : goal.append_values-requires-clause-values
 append_values-requires-clause-values c =
-    (model-stored c.reach.new.self.accepted c.reach.new.self.accepted c.deref.result.now c.deref-in-Model.result.now c.reach.new.self.vars c.args.self.now.solver.vars c.len.result (length c.dense_assumptions.new.names) c.in_ok-answer.answer c.in-Model.values
+    (model-stored c.args.self.now.choices.limit c.reach.new.self.accepted c.reach.new.self.accepted c.deref.result.now c.deref-in-Model.result.now c.reach.new.self.vars c.args.self.now.solver.vars c.len.result (length c.dense_assumptions.new.names) c.in_ok-answer.answer c.in-Model.values
     refl (c.deref.ensures.value ∙ sym c.deref-in-Model.ensures.value) (ap (λ (v : SolverView _). v.vars) c.in_ok-reach.ensures.reached) c.len.ensures.value
     (omega (arith, c.requires.kept.together.known, c.in_ok-assumptions.ensures.grows.longer)) c.in-Model.is c.in_ok-answer.ensures.solved.answer).0
 
 pub assumptions_at-requires : goal.assumptions_at-requires
 assumptions_at-requires c =
     first_places-within c.deref-in-Failed.result.now c.in-Failed.places
-    (failed-places _ _ c.deref.result.now c.deref-in-Failed.result.now c.in_ok-answer.answer c.in-Failed.root c.in-Failed.places (c.deref.ensures.value ∙ sym c.deref-in-Failed.ensures.value) c.in-Failed.is c.in_ok-answer.ensures.solved.answer)
+    (failed-places c.args.self.now.choices.limit _ _ c.deref.result.now c.deref-in-Failed.result.now c.in_ok-answer.answer c.in-Failed.root c.in-Failed.places (c.deref.ensures.value ∙ sym c.deref-in-Failed.ensures.value) c.in-Failed.is c.in_ok-answer.ensures.solved.answer)
 
 pub refute-requires-clause-kept : goal.refute-requires-clause-kept
 refute-requires-clause-kept c =
@@ -55,13 +56,14 @@ refute-requires-clause-kept c =
           (c.in_ok-answer.ensures.accepted ∙ c.in_ok-reach.ensures.accepted)
           (omega (arith, c.in_ok-answer.ensures.vars, reached, c.len.ensures.value, c.requires.kept.together.known, c.in_ok-assumptions.ensures.grows.longer));
       chosen = c.requires.kept.chosen;
+      limited = c.requires.kept.limited;
     }
 
 pub refute-requires-clause-over : goal.refute-requires-clause-over
 refute-requires-clause-over c =
     let xs : Assumptions = c.deref-in-Failed.result.now in
     let first : AreFirstPlaces xs c.in-Failed.places =
-    failed-places _ _ c.deref.result.now xs c.in_ok-answer.answer c.in-Failed.root c.in-Failed.places (c.deref.ensures.value ∙ sym c.deref-in-Failed.ensures.value) c.in-Failed.is c.in_ok-answer.ensures.solved.answer in
+    failed-places c.args.self.now.choices.limit _ _ c.deref.result.now xs c.in_ok-answer.answer c.in-Failed.root c.in-Failed.places (c.deref.ensures.value ∙ sym c.deref-in-Failed.ensures.value) c.in-Failed.is c.in_ok-answer.ensures.solved.answer in
     subst (λ (ys : Assumptions). IsOver (length c.dense_assumptions.new.names) (literals ys)) (sym (c.deref-in-Failed-2.ensures.value ∙ c.in_ok-failed-in-Failed.ensures))
     (over-at_places (length c.dense_assumptions.new.names) xs c.in-Failed.places (first_places-within xs c.in-Failed.places first)
     (subst (λ (ys : Assumptions). IsOver (length c.dense_assumptions.new.names) (literals ys)) (sym c.deref-in-Failed.ensures.value) c.in_ok-assumptions.ensures.over))
@@ -70,7 +72,7 @@ pub refute-requires-clause-parts : goal.refute-requires-clause-parts
 refute-requires-clause-parts c =
     let xs : Assumptions = c.deref-in-Failed.result.now in
     let first : AreFirstPlaces xs c.in-Failed.places =
-    failed-places _ _ c.deref.result.now xs c.in_ok-answer.answer c.in-Failed.root c.in-Failed.places (c.deref.ensures.value ∙ sym c.deref-in-Failed.ensures.value) c.in-Failed.is c.in_ok-answer.ensures.solved.answer in
+    failed-places c.args.self.now.choices.limit _ _ c.deref.result.now xs c.in_ok-answer.answer c.in-Failed.root c.in-Failed.places (c.deref.ensures.value ∙ sym c.deref-in-Failed.ensures.value) c.in-Failed.is c.in_ok-answer.ensures.solved.answer in
     parts-at_places c.dense_assumptions.new.names c.args.self.now.sides.parts xs c.deref-in-Failed-2.result.now c.args.pairs.now c.in-Failed.places (c.deref-in-Failed-2.ensures.value ∙ c.in_ok-failed-in-Failed.ensures) (first_places-within xs c.in-Failed.places first)
     (ap (named_assumptions c.dense_assumptions.new.names) c.deref-in-Failed.ensures.value ∙ c.in_ok-assumptions.ensures.assumptions) c.requires.parts
 
@@ -100,6 +102,7 @@ returns-in-Model-clause-kept c =
           (c.in_ok-answer.ensures.accepted ∙ c.in_ok-reach.ensures.accepted)
           (omega (arith, c.in_ok-answer.ensures.vars, reached, c.len.ensures.value, c.requires.kept.together.known, c.in_ok-assumptions.ensures.grows.longer));
       chosen = c.requires.kept.chosen;
+      limited = c.requires.kept.limited;
     })
 
 pub returns-in-Model-clause-reply : goal.returns-in-Model-clause-reply
@@ -116,7 +119,7 @@ returns-in-Model-clause-reply c =
     let over : HaveNames names accepted = subst (HaveNames names) (sym same) (HaveNames-grows c.args.self.now.names names c.args.self.now.solver.accepted c.in_ok-assumptions.ensures.grows c.requires.kept.together.stored) in
     let sides : AreSidesOf (parted accepted) c.args.self.now.sides = subst (λ (cs : List (Part × Clause)). AreSidesOf (parted cs) c.args.self.now.sides) (sym same) c.requires.kept.together.sides_are in
     let model =
-    (model-stored c.reach.new.self.accepted accepted c.deref.result.now c.deref-in-Model.result.now c.reach.new.self.vars c.args.self.now.solver.vars c.len.result (length names) c.in_ok-answer.answer c.in-Model.values
+    (model-stored c.args.self.now.choices.limit c.reach.new.self.accepted accepted c.deref.result.now c.deref-in-Model.result.now c.reach.new.self.vars c.args.self.now.solver.vars c.len.result (length names) c.in_ok-answer.answer c.in-Model.values
     c.in_ok-answer.ensures.accepted (c.deref.ensures.value ∙ sym c.deref-in-Model.ensures.value) (ap (λ (v : SolverView _). v.vars) c.in_ok-reach.ensures.reached) c.len.ensures.value
     (omega (arith, c.requires.kept.together.known, c.in_ok-assumptions.ensures.grows.longer)) c.in-Model.is c.in_ok-answer.ensures.solved.answer).1 in
     model-reply c.append_values.result (given_state c.args.self.now) names c.solve.new.self.tracer.told.steps c.solve.new.self.root clauses c.args.pairs.now _ _ are (on_ok_weaker c.append_values.result (λ appends. appends accepted sides over model) c.append_values.ensures.model)
@@ -133,7 +136,7 @@ returns-in-Failed-clause-reply c =
     let root : c.solve.new.self.root ≡ Some c.in-Failed.root.0 = c.in_ok-answer.ensures.solved.root ∙ ap root_of_answer c.in-Failed.is in
     let are : named_assumptions names xs ≡ assumptions_of c.args.pairs.now = ap (named_assumptions names) c.deref-in-Failed.ensures.value ∙ c.in_ok-assumptions.ensures.assumptions in
     let first : AreFirstPlaces xs c.in-Failed.places =
-    failed-places _ _ c.deref.result.now xs c.in_ok-answer.answer c.in-Failed.root c.in-Failed.places (c.deref.ensures.value ∙ sym c.deref-in-Failed.ensures.value) c.in-Failed.is c.in_ok-answer.ensures.solved.answer in
+    failed-places c.args.self.now.choices.limit _ _ c.deref.result.now xs c.in_ok-answer.answer c.in-Failed.root c.in-Failed.places (c.deref.ensures.value ∙ sym c.deref-in-Failed.ensures.value) c.in-Failed.is c.in_ok-answer.ensures.solved.answer in
     let over : IsOver (length names) (literals xs) = subst (λ (ys : Assumptions). IsOver (length names) (literals ys)) (sym c.deref-in-Failed.ensures.value) c.in_ok-assumptions.ensures.over in
     let named : NamesFailed (named_assumptions names xs) (named_assumptions names chosen) =
     subst (λ (ys : Assumptions). NamesFailed (named_assumptions names xs) (named_assumptions names ys)) (sym (c.deref-in-Failed-2.ensures.value ∙ c.in_ok-failed-in-Failed.ensures))
@@ -143,6 +146,41 @@ returns-in-Failed-clause-reply c =
     refuted-reply c.refute.result (given_state c.args.self.now) before names kept c.solve.new.self.root c.in-Failed.root.0 (named_assumptions names chosen) (named_assumptions names xs) c.args.pairs.now c.args.out.now.items c.refute.new.out.items state root are named c.refute.ensures.reply in
     subst (λ (v : SolverView ChainStore). OnOk c.refute.result ((text : List ℕ) × IsSolveReplyBy c.refute.new.self.names v.tracer.told.steps v.root (given_state c.args.self.now) c.args.pairs.now text × (c.refute.new.out.items ≡ c.args.out.now.items ++ text))) (sym c.refute.ensures.same.solver)
     (subst (λ (ns : List ℕ). OnOk c.refute.result ((text : List ℕ) × IsSolveReplyBy ns kept c.solve.new.self.root (given_state c.args.self.now) c.args.pairs.now text × (c.refute.new.out.items ≡ c.args.out.now.items ++ text))) (sym c.refute.ensures.same.names) reply)
+
+pub append_lemmas-requires : goal.append_lemmas-requires
+append_lemmas-requires c =
+    let names = c.dense_assumptions.new.names in
+    let held = c.reach.new.self.accepted in
+    let answer = subst (IsAnswer (accepted_clauses held) c.reach.new.self.vars c.deref.result.now c.args.self.now.choices.limit) c.in-Limit.is c.in_ok-answer.ensures.solved.answer in
+    let over : HaveNames names held = subst (HaveNames names) (sym c.in_ok-reach.ensures.accepted) (HaveNames-grows c.args.self.now.names names c.args.self.now.solver.accepted c.in_ok-assumptions.ensures.grows c.requires.kept.together.stored) in
+    AreOver-lemmas (length names) (accepted_clauses held) c.in-Limit.lemmas over answer.1
+
+pub returns-clause-kept : goal.returns-clause-kept
+returns-clause-kept c =
+    let reached = ap (λ (v : SolverView _). v.vars) c.in_ok-reach.ensures.reached in
+    always c.append_lemmas.result _ (record {
+      together = AreStoredTogether-grown c.args.self.now.names c.dense_assumptions.new.names c.args.self.now.sides c.args.self.now.solver.accepted c.solve.new.self.accepted c.args.self.now.solver.vars c.solve.new.self.vars c.requires.kept.together c.in_ok-assumptions.ensures.grows
+          (c.in_ok-answer.ensures.accepted ∙ c.in_ok-reach.ensures.accepted)
+          (omega (arith, c.in_ok-answer.ensures.vars, reached, c.len.ensures.value, c.requires.kept.together.known, c.in_ok-assumptions.ensures.grows.longer));
+      chosen = c.requires.kept.chosen;
+      limited = c.requires.kept.limited;
+    })
+
+pub returns-clause-reply : goal.returns-clause-reply
+returns-clause-reply c =
+    let names = c.dense_assumptions.new.names in
+    let accepted = c.solve.new.self.accepted in
+    let settings = settings_of c.args.self.now.sides.parts c.args.self.now.choices in
+    let same = c.in_ok-answer.ensures.accepted ∙ c.in_ok-reach.ensures.accepted in
+    let state : stored_state settings names accepted ≡ given_state c.args.self.now =
+    stored_state-grown settings settings c.args.self.now.names names c.args.self.now.solver.accepted accepted refl c.in_ok-assumptions.ensures.grows c.requires.kept.together.stored same in
+    let over : HaveNames names accepted = subst (HaveNames names) (sym same) (HaveNames-grows c.args.self.now.names names c.args.self.now.solver.accepted c.in_ok-assumptions.ensures.grows c.requires.kept.together.stored) in
+    unknown-reply c.append_lemmas.result (given_state c.args.self.now) names c.solve.new.self.tracer.told.steps c.solve.new.self.root c.reach.new.self.accepted accepted c.deref.result.now c.reach.new.self.vars c.in_ok-answer.answer c.in-Limit.lemmas c.args.pairs.now _ _
+    c.len.ensures.are_names.distinct over (sym c.in_ok-answer.ensures.accepted) state c.in-Limit.is c.in_ok-answer.ensures.solved.answer c.append_lemmas.ensures.lemmas
+
+pub returns-clause-state : goal.returns-clause-state
+returns-clause-state c =
+    stored_state-grown (settings_of c.args.self.now.sides.parts c.args.self.now.choices) (settings_of c.args.self.now.sides.parts c.args.self.now.choices) c.args.self.now.names c.dense_assumptions.new.names c.args.self.now.solver.accepted c.solve.new.self.accepted refl c.in_ok-assumptions.ensures.grows c.requires.kept.together.stored (c.in_ok-answer.ensures.accepted ∙ c.in_ok-reach.ensures.accepted)
 
 pub returns-in_err-assumptions-clause-state : goal.returns-in_err-assumptions-clause-state
 returns-in_err-assumptions-clause-state c =

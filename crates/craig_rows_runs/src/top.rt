@@ -24,7 +24,7 @@ const UNSATISFIABLE: Row = Row {
 };
 
 /// Scripts that are read to their end.
-const ROWS: [Row; 30] = [
+const ROWS: [Row; 33] = [
     UNSATISFIABLE,
     Row {
         shows: "a cut variable alone, where an expansion over local ones would keep the input 2",
@@ -170,6 +170,21 @@ const ROWS: [Row; 30] = [
         shows: "another number of parts chooses all cuts",
         script: b"parts 4096\ncuts 0 4096\nparts 1\nadd 1 0\nsolve 0\n",
         replies: b"ok\nok\nok\nok\ns UNSATISFIABLE\nf 0\na 28\naag 0 0 0 2 0\n1\n0\no0 0\no1 1\n",
+    },
+    Row {
+        shows: "limits, and what is none",
+        script: b"limit 0\nlimit 100001\nlimit\nlimit none\nlimit 100000\nlimit 1 2\nlimit 01\nlimit all\n",
+        replies: b"e 6\ne 6\ne 1\nok\nok\ne 1\ne 1\ne 1\n",
+    },
+    Row {
+        shows: "the only lemma that an assumption leads to, which stays",
+        script: b"limit 1\nadd 1 1 2 0\nadd 1 1 -2 0\nsolve 2 -1 0\nsolve 2 -1 0\n",
+        replies: b"ok\nok\nok\ns UNKNOWN 1\nl 1 0\ns UNSATISFIABLE\nf -1 0\na 42\naag 1 1 0 3 0\n2\n1\n2\n0\ni0 1\no0 0\no1 1\no2 2\n",
+    },
+    Row {
+        shows: "a limit of one, and clauses that propagation refutes",
+        script: b"limit 1\nadd 1 1 0\nadd 2 -1 0\nsolve 0\n",
+        replies: b"ok\nok\nok\ns UNSATISFIABLE\nf 0\na 42\naag 1 1 0 3 0\n2\n1\n2\n0\ni0 1\no0 0\no1 1\no2 2\n",
     },
 ];
 

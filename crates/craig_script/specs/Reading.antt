@@ -7,8 +7,10 @@ use Rattle.std.specs.Int.RustNames.{unsigned_abs}
 use Rattle.craig_script.specs.declared.line.Line.{Line}
 use Rattle.craig_script.specs.declared.line.Line.TheVariants as line
 use Rattle.craig_script.specs.declared.command.Command.{Command}
-use Rattle.craig_script.specs.declared.command.Command.TheVariants.{Nothing, Parts, Add, System, Mark, Cuts, Limit, Solve}
+use Rattle.craig_script.specs.declared.command.Command.TheVariants.{Nothing, Parts, Add, System, Mark, Cuts, Limit, Format, Solve}
 use Rattle.craig_script.specs.declared.cut_word.CutWord.TheVariants as cut
+use Rattle.craig_script.specs.declared.setting_words.FormatWord.{FormatWord}
+use Rattle.craig_script.specs.declared.setting_words.FormatWord.TheVariants as format
 use Rattle.craig_script.specs.declared.setting_words.MarkWord.{MarkWord}
 use Rattle.craig_script.specs.declared.setting_words.MarkWord.TheVariants as mark
 use Rattle.craig_script.specs.declared.setting_words.SystemWord.{SystemWord}
@@ -104,6 +106,17 @@ cuts_of (w ∷ ws) = if bytes_eq w (codes "all") then then_nothing ws (Cuts cut.
 abbrev pub limit_of : List (List ℕ) → Result Command Refusal
 limit_of ws = only_word ws >>= λ w. if bytes_eq w (codes "none") then Ok (Limit None) else (or_syntax (number_of w) >>= λ n. Ok (Limit (Some n)))
 
+-- the format that the word names
+abbrev pub format_named : List ℕ → Option FormatWord
+format_named w =
+    if bytes_eq w (codes "aag") then Some format.Aag
+    else if bytes_eq w (codes "cnf") then Some format.Cnf
+    else None
+
+-- the name of a format alone
+abbrev pub format_of : List (List ℕ) → Result Command Refusal
+format_of ws = only_word ws >>= λ w. (or_syntax (format_named w) >>= λ f. Ok (Format f))
+
 -- pairs of a part and a literal, and the end
 abbrev pub pairs_to_end : List (List ℕ) → Result (List (ℕ × ℤ)) Refusal
 pairs_to_end [] = Err Syntax
@@ -129,6 +142,7 @@ command_of (w ∷ ws) =
     else if bytes_eq w (codes "mark") then mark_of ws
     else if bytes_eq w (codes "cuts") then cuts_of ws
     else if bytes_eq w (codes "limit") then limit_of ws
+    else if bytes_eq w (codes "format") then format_of ws
     else if bytes_eq w (codes "solve") then solve_of ws
     else Err Syntax
 
@@ -154,6 +168,7 @@ variables_named (System s) = []
 variables_named (Mark name m) = name ∷ []
 variables_named (Cuts cuts) = []
 variables_named (Limit limit) = []
+variables_named (Format f) = []
 variables_named (Solve pairs) = map (λ pair. unsigned_abs pair.1) pairs
 
 -- whether the number is from 1 to the limit
@@ -169,6 +184,7 @@ gives_parts (System s) = false
 gives_parts (Mark name m) = false
 gives_parts (Cuts cuts) = false
 gives_parts (Limit limit) = false
+gives_parts (Format f) = false
 gives_parts (Solve pairs) = false
 
 -- whether each part that the command names is from 0 to the number of parts, and a number of parts from 1 to the most
@@ -180,6 +196,7 @@ are_parts_within parts (System s) = true
 are_parts_within parts (Mark name m) = true
 are_parts_within parts (Cuts cuts) = true
 are_parts_within parts (Limit limit) = true
+are_parts_within parts (Format f) = true
 are_parts_within parts (Solve pairs) = list_all (λ pair. nat_le pair.0 parts) pairs
 
 -- a number that isn't negative
@@ -212,6 +229,7 @@ are_cuts_within parts (Mark name m) = true
 are_cuts_within parts (Cuts cut.All) = true
 are_cuts_within parts (Cuts (cut.Chosen ns)) = are_rising_within 0 parts ns
 are_cuts_within parts (Limit limit) = true
+are_cuts_within parts (Format f) = true
 are_cuts_within parts (Solve pairs) = true
 
 -- the most that a conflict limit is
@@ -228,6 +246,7 @@ is_limit_within (Mark name m) = true
 is_limit_within (Cuts cuts) = true
 is_limit_within (Limit None) = true
 is_limit_within (Limit (Some n)) = is_within limit_limit n
+is_limit_within (Format f) = true
 is_limit_within (Solve pairs) = true
 
 -- the tests on what a command names: whether it comes too late, its parts, its variables, its limit, its cuts

@@ -55,7 +55,8 @@ fn parts_are_within(parts: u64, command: &Command) -> bool
         | Command::System(_)
         | Command::Mark { .. }
         | Command::Cuts(_)
-        | Command::Limit(_) => true,
+        | Command::Limit(_)
+        | Command::Format(_) => true,
         Command::Parts(count) => is_within(PART_LIMIT, *count),
         Command::Add { part, .. } => *part <= parts,
         Command::Solve(pairs) => each_part_is_within(parts, pairs.as_slice()),
@@ -131,7 +132,8 @@ fn variables_are_within(limit: u64, command: &Command) -> bool
         | Command::Parts(_)
         | Command::System(_)
         | Command::Cuts(_)
-        | Command::Limit(_) => true,
+        | Command::Limit(_)
+        | Command::Format(_) => true,
         Command::Mark { name, .. } => is_within(limit, *name),
         Command::Add { lits, .. } => each_literal_is_within(limit, lits.as_slice()),
         Command::Solve(pairs) => each_assumption_is_within(limit, pairs.as_slice()),

@@ -3,7 +3,7 @@
 use crate::cut_word::CutWord;
 use crate::numbers::Numbers;
 use crate::pairs::Pairs;
-use crate::setting_words::{MarkWord, SystemWord};
+use crate::setting_words::{FormatWord, MarkWord, SystemWord};
 
 /// What a line of the script asks for.
 #[derive(Debug, Drop)]
@@ -22,6 +22,8 @@ pub enum Command {
     Cuts(CutWord),
     /// How many conflicts each later solve may meet, where there is a limit.
     Limit(Option<u64>),
+    /// The format in which circuits are written.
+    Format(FormatWord),
     /// Solve under these assumptions, each a part and a literal.
     Solve(Pairs),
 }

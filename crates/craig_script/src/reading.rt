@@ -5,7 +5,7 @@
 ghost use Rattle.std.specs.Prelude.{◌≡◌, List, ℤ, [], ◌∷◌, Ok, Err, codes, IsTrue, IsErrAnd, IfNone, IfSome, slice_index, ◌==◌};
 ghost use Rattle.std.specs.Str.{bytes_eq};
 ghost use Rattle.craig_script.specs.Words.{words};
-ghost use Rattle.craig_script.specs.Reading.{IsParsedAs, IsNoMemory, parsed, command_of, add_of, solve_of, literals_to_end, is_comment, is_end, then_nothing, begins_list, begins_with_literal, begins_with_number, begins_with_part_and_literal, may_take_memory, parts_of, system_of, mark_of, cuts_of, limit_of, numbers_to_end, pairs_to_end, only_word, system_named, mark_named};
+ghost use Rattle.craig_script.specs.Reading.{IsParsedAs, IsNoMemory, parsed, command_of, add_of, solve_of, literals_to_end, is_comment, is_end, then_nothing, begins_list, begins_with_literal, begins_with_number, begins_with_part_and_literal, may_take_memory, parts_of, system_of, mark_of, cuts_of, limit_of, format_of, numbers_to_end, pairs_to_end, only_word, system_named, mark_named, format_named};
 
 use crate::command::Command;
 use crate::cut_word::CutWord;
@@ -15,7 +15,7 @@ use crate::literal::{literal_in, number_in};
 use crate::numbers::Numbers;
 use crate::pairs::Pairs;
 use crate::refusal::{LineFault, Refusal};
-use crate::setting_words::{MarkWord, SystemWord};
+use crate::setting_words::{FormatWord, MarkWord, SystemWord};
 use crate::words::next_word;
 use std::alloc::Global;
 
@@ -56,6 +56,8 @@ fn command(alloc: Global, line: &[u8]) -> Result<Command, LineFault>
         cuts(alloc, rest)
     } else if is_word(word, b"limit") {
         limit(rest)
+    } else if is_word(word, b"format") {
+        format(rest)
     } else if is_word(word, b"solve") {
         solve(alloc, rest)
     } else {
@@ -160,6 +162,20 @@ fn limit(line: &[u8]) -> Result<Command, LineFault>
         return Err(LineFault::Refused(Refusal::Syntax));
     };
     Ok(Command::Limit(Some(limit)))
+}
+
+/// The name of a format.
+fn format(line: &[u8]) -> Result<Command, LineFault>
+    ensures read { IsParsedAs result (format_of (words line.now)) }
+    ensures memory { IsErrAnd result IsNoMemory → ⊥ }
+{
+    let Some(word) = only_word(line) else {
+        return Err(LineFault::Refused(Refusal::Syntax));
+    };
+    let Some(format) = format_named(word) else {
+        return Err(LineFault::Refused(Refusal::Syntax));
+    };
+    Ok(Command::Format(format))
 }
 
 /// The assumptions of a solve, and the end.
@@ -283,6 +299,19 @@ fn mark_named(word: &[u8]) -> Option<MarkWord>
         Some(MarkWord::Ab)
     } else if is_word(word, b"b") {
         Some(MarkWord::B)
+    } else {
+        None
+    }
+}
+
+/// The format that the word names.
+fn format_named(word: &[u8]) -> Option<FormatWord>
+    ensures { result ≡ format_named word.now }
+{
+    if is_word(word, b"aag") {
+        Some(FormatWord::Aag)
+    } else if is_word(word, b"cnf") {
+        Some(FormatWord::Cnf)
     } else {
         None
     }

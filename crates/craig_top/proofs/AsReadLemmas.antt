@@ -5,14 +5,14 @@ use Rattle.std.specs.Str.{bytes_eq}
 use Rattle.craig_script.specs.declared.line.Line.{Line}
 use Rattle.craig_script.specs.declared.line.Line.TheVariants as line
 use Rattle.craig_script.specs.declared.command.Command.{Command}
-use Rattle.craig_script.specs.declared.command.Command.TheVariants.{Nothing, Parts, Add, System, Mark, Cuts, Limit, Solve}
+use Rattle.craig_script.specs.declared.command.Command.TheVariants.{Nothing, Parts, Add, System, Mark, Cuts, Limit, Format, Solve}
 use Rattle.craig_script.specs.declared.cut_word.CutWord.TheVariants as cut
 use Rattle.craig_script.specs.declared.refusal.Refusal.{Refusal}
 use Rattle.craig_script.specs.declared.refusal.Refusal.TheVariants.{Syntax, Overlong}
 use Rattle.craig_script.specs.Lines.{line_limit}
 use Rattle.craig_script.specs.Words.{words}
 use Rattle.craig_script.specs.NumberWords.{number_of}
-use Rattle.craig_script.specs.Reading.{limit_of, ◌>>=◌, or_syntax, then_nothing, only_word, literals_to_end, numbers_to_end, add_of, parts_of, system_of, system_named, mark_of, mark_named, cuts_of, pairs_to_end, solve_of, command_of, parsed, is_comment, admitted, read_line}
+use Rattle.craig_script.specs.Reading.{format_named, format_of, limit_of, ◌>>=◌, or_syntax, then_nothing, only_word, literals_to_end, numbers_to_end, add_of, parts_of, system_of, system_named, mark_of, mark_named, cuts_of, pairs_to_end, solve_of, command_of, parsed, is_comment, admitted, read_line}
 use Rattle.craig_top.specs.AsRead.{IsAsRead}
 
 -- the command of a reading, where there is one, is as it is read
@@ -64,6 +64,9 @@ limit_read ws =
     made (only_word ws) (λ w. cond (bytes_eq w (codes "none")) (Ok (Limit None)) (or_syntax (number_of w) >>= λ n. Ok (Limit (Some n))))
     (λ w. either (bytes_eq w (codes "none")) (Ok (Limit None)) (or_syntax (number_of w) >>= λ n. Ok (Limit (Some n))) tt (made (or_syntax (number_of w)) (λ n. Ok (Limit (Some n))) (λ n. tt)))
 
+format_read : (ws : List (List ℕ)) → AllAsRead (format_of ws)
+format_read ws = made (only_word ws) (λ w. or_syntax (format_named w) >>= λ f. Ok (Format f)) (λ w. made (or_syntax (format_named w)) (λ f. Ok (Format f)) (λ f. tt))
+
 solve_read : (ws : List (List ℕ)) → AllAsRead (solve_of ws)
 solve_read ws = made (pairs_to_end ws) (λ pairs. Ok (Solve pairs)) (λ pairs. tt)
 
@@ -71,7 +74,8 @@ command_read : (ws : List (List ℕ)) → AllAsRead (command_of ws)
 command_read [] = tt
 command_read (w ∷ ws) =
     let solve : Result Command Refusal = cond (bytes_eq w (codes "solve")) (solve_of ws) (Err Syntax) in
-    let limit : Result Command Refusal = cond (bytes_eq w (codes "limit")) (limit_of ws) solve in
+    let format : Result Command Refusal = cond (bytes_eq w (codes "format")) (format_of ws) solve in
+    let limit : Result Command Refusal = cond (bytes_eq w (codes "limit")) (limit_of ws) format in
     let cuts : Result Command Refusal = cond (bytes_eq w (codes "cuts")) (cuts_of ws) limit in
     let mark : Result Command Refusal = cond (bytes_eq w (codes "mark")) (mark_of ws) cuts in
     let system : Result Command Refusal = cond (bytes_eq w (codes "system")) (system_of ws) mark in
@@ -83,8 +87,9 @@ command_read (w ∷ ws) =
     (either (bytes_eq w (codes "system")) (system_of ws) mark (system_read ws)
     (either (bytes_eq w (codes "mark")) (mark_of ws) cuts (mark_read ws)
     (either (bytes_eq w (codes "cuts")) (cuts_of ws) limit (cuts_read ws)
-    (either (bytes_eq w (codes "limit")) (limit_of ws) solve (limit_read ws)
-    (either (bytes_eq w (codes "solve")) (solve_of ws) (Err Syntax) (solve_read ws) tt)))))))
+    (either (bytes_eq w (codes "limit")) (limit_of ws) format (limit_read ws)
+    (either (bytes_eq w (codes "format")) (format_of ws) solve (format_read ws)
+    (either (bytes_eq w (codes "solve")) (solve_of ws) (Err Syntax) (solve_read ws) tt))))))))
 
 line_read : (l : Line) → AllAsRead (parsed l)
 line_read line.Overlong = tt

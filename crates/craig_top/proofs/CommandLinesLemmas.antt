@@ -7,8 +7,9 @@ use Rattle.std.specs.Str.{bytes_eq}
 use Rattle.std.proofs.lemmas.Bool.{and_parts, eq-eqb, eqb-true}
 use Rattle.std.proofs.lemmas.Slice.Eq.{bytes_eq-Decides}
 use Rattle.craig_script.specs.declared.command.Command.{Command}
-use Rattle.craig_script.specs.declared.command.Command.TheVariants.{Nothing, Parts, Add, System, Mark, Cuts, Limit, Solve}
+use Rattle.craig_script.specs.declared.command.Command.TheVariants.{Nothing, Parts, Add, System, Mark, Cuts, Limit, Format, Solve}
 use Rattle.craig_script.specs.declared.cut_word.CutWord.TheVariants as cut
+use Rattle.craig_script.specs.declared.setting_words.FormatWord.{FormatWord}
 use Rattle.craig_script.specs.declared.setting_words.MarkWord.{MarkWord}
 use Rattle.craig_script.specs.declared.setting_words.SystemWord.{SystemWord}
 use Rattle.craig_script.specs.declared.line.Line.{Line}
@@ -17,12 +18,12 @@ use Rattle.craig_script.specs.declared.refusal.Refusal.{Refusal}
 use Rattle.craig_script.specs.declared.refusal.Refusal.TheVariants.{Syntax, Overlong, Range, Variable, LateParts, CutRange, LimitRange}
 use Rattle.craig_script.specs.Lines.{line_limit}
 use Rattle.craig_script.specs.NumberWords.{is_negated, literal_of, number_of, unless_zero}
-use Rattle.craig_script.specs.Reading.{limit_of, is_limit_within, ◌>>=◌, add_of, admitted, are_cuts_within, are_parts_within, command_of, cuts_of, gives_parts, is_comment, is_end, is_within, literals_to_end, mark_named, mark_of, numbers_to_end, only_word, or_syntax, pairs_to_end, parsed, parts_of, solve_of, system_named, system_of, then_nothing, variable_limit, variables_named}
+use Rattle.craig_script.specs.Reading.{format_named, format_of, limit_of, is_limit_within, ◌>>=◌, add_of, admitted, are_cuts_within, are_parts_within, command_of, cuts_of, gives_parts, is_comment, is_end, is_within, literals_to_end, mark_named, mark_of, numbers_to_end, only_word, or_syntax, pairs_to_end, parsed, parts_of, solve_of, system_named, system_of, then_nothing, variable_limit, variables_named}
 use Rattle.craig_script.specs.Words.{words}
 use Rattle.craig_spec.specs.Cut.{PartClause}
 use Rattle.craig_spec.proofs.MemberLemmas.{Contains-image, list_all-member}
 use Rattle.craig_script.proofs.NumbersLemmas.{option_map-some}
-use Rattle.craig_top.specs.CommandLines.{limit_words, IsLimitInRange, AreInRange, ArePairsInRange, AreRisingCuts, add_words, all_cuts_words, cuts_words, mark_word, mark_words, parts_words, solve_words, system_word, system_words}
+use Rattle.craig_top.specs.CommandLines.{format_word, format_words, limit_words, IsLimitInRange, AreInRange, ArePairsInRange, AreRisingCuts, add_words, all_cuts_words, cuts_words, mark_word, mark_words, parts_words, solve_words, system_word, system_words}
 use Rattle.craig_top.specs.GivenState.{State, any_clause, reading}
 use Rattle.craig_top.proofs.AsReadLemmas.{as_read}
 use Rattle.craig_top.proofs.RisingCutsLemmas.{rising-cuts, within-cuts}
@@ -102,6 +103,15 @@ mark-form w m e =
     Form : MarkWord → Type 0
     Form t = w ≡ mark_word t
 
+format-form : (w : List ℕ) (f : FormatWord) → format_named w ≡ Some f → w ≡ format_word f
+format-form w f e =
+    chosen-ok Form _ _ _ f e (same_word w (codes "aag"))
+    (λ e. chosen-ok Form _ _ _ f e (same_word w (codes "cnf"))
+    (λ e. absurd (cc)))
+  where
+    Form : FormatWord → Type 0
+    Form t = w ≡ format_word t
+
 only-ok : (ws : List (List ℕ)) (w : List ℕ) → only_word ws ≡ Ok w → ws ≡ w ∷ []
 only-ok [] w e = absurd (cc)
 only-ok (v ∷ vs) w e = let none = nothing-ok vs v w e in ap (λ rest. v ∷ rest) none.0 ∙ ap (λ u. u ∷ []) none.1
@@ -114,6 +124,7 @@ Worded (Add part lits) ws = ws ≡ add_words part lits
 Worded (System s) ws = ws ≡ system_words s
 Worded (Mark name m) ws = ws ≡ mark_words name m
 Worded (Limit limit) ws = ws ≡ limit_words limit
+Worded (Format f) ws = ws ≡ format_words f
 Worded (Cuts cut.All) ws = ws ≡ all_cuts_words
 Worded (Cuts (cut.Chosen zs)) ws = ws ≡ cuts_words zs
 Worded (Solve pairs) ws = ws ≡ solve_words pairs
@@ -281,6 +292,13 @@ module _ (literal_form : (word : List ℕ) (z : ℤ) → literal_of word ≡ Som
       let one = bind-ok (only_word ws) (λ w. cond (bytes_eq w (codes "none")) (Ok (Limit None)) (or_syntax (number_of w) >>= λ n. Ok (Limit (Some n)))) c e in
       subst (λ vs. Worded c (codes "limit" ∷ vs)) (sym (only-ok ws one.0 one.1)) (limit-cases one.0 c (bytes_eq one.0 (codes "none")) refl one.2)
 
+  format-worded : (ws : List (List ℕ)) (c : Command) → format_of ws ≡ Ok c → Worded c (codes "format" ∷ ws)
+  format-worded ws c e =
+      let one = bind-ok (only_word ws) (λ w. or_syntax (format_named w) >>= λ f. Ok (Format f)) c e in
+      let two = bind-ok (or_syntax (format_named one.0)) (λ f. Ok (Format f)) c one.2 in
+      subst (λ d. Worded d (codes "format" ∷ ws)) (same_ok (Format two.0) c two.2)
+      (ap (λ vs. codes "format" ∷ vs) (only-ok ws one.0 one.1 ∙ ap (λ v. v ∷ []) (format-form one.0 two.0 (or_syntax-ok (format_named one.0) two.0 two.1))))
+
   solve-worded : (ws : List (List ℕ)) (c : Command) → solve_of ws ≡ Ok c → Worded c (codes "solve" ∷ ws)
   solve-worded ws c e =
       let found = bind-ok (pairs_to_end ws) (λ pairs. Ok (Solve pairs)) c e in
@@ -305,8 +323,9 @@ module _ (literal_form : (word : List ℕ) (z : ℤ) → literal_of word ≡ Som
       (λ e. tested (codes "mark") w ws (mark_of ws) _ c (bytes_eq w (codes "mark")) refl e (mark-worded ws c)
       (λ e. tested (codes "cuts") w ws (cuts_of ws) _ c (bytes_eq w (codes "cuts")) refl e (cuts-worded ws c)
       (λ e. tested (codes "limit") w ws (limit_of ws) _ c (bytes_eq w (codes "limit")) refl e (limit-worded ws c)
+      (λ e. tested (codes "format") w ws (format_of ws) _ c (bytes_eq w (codes "format")) refl e (format-worded ws c)
       (λ e. tested (codes "solve") w ws (solve_of ws) _ c (bytes_eq w (codes "solve")) refl e (solve-worded ws c)
-      (λ e. absurd (cc)))))))))
+      (λ e. absurd (cc))))))))))
 
   -- the words of a line that is read as a command
   worded : (state : State) (bytes : List ℕ) (c : Command) → reading state (line.Text bytes) ≡ Ok c → Worded c (words bytes)
@@ -357,6 +376,9 @@ module _ (literal_form : (word : List ℕ) (z : ℤ) → literal_of word ≡ Som
   line_that_limits state bytes limit e =
       let tests = admitted-tests state (Limit limit) (read-ok state (line.Text bytes) (Limit limit) e).1 in
       (worded state bytes (Limit limit) e, λ n is. let both = and_parts _ _ (rw is at tests.4) in (leb-true 1 n both.0, leb-true n 100000 both.1))
+
+  pub line_that_formats : (state : State) (bytes : List ℕ) (f : FormatWord) → reading state (line.Text bytes) ≡ Ok (Format f) → words bytes ≡ format_words f
+  line_that_formats state bytes f e = worded state bytes (Format f) e
 
   pub line_that_solves : (state : State) (bytes : List ℕ) (pairs : List (ℕ × ℤ)) → reading state (line.Text bytes) ≡ Ok (Solve pairs) → (words bytes ≡ solve_words pairs) × ArePairsInRange state.settings.parts pairs
   line_that_solves state bytes pairs e =

@@ -13,6 +13,7 @@ pub mod VerdictLemmas
 pub mod NothingLeftLemmas
 pub mod SequenceLemmas
 pub mod DrawnLemmas
+pub mod FormatLemmas
 pub mod RefutationLemmas
 pub mod GrowthLemmas
 pub mod SidesLemmas

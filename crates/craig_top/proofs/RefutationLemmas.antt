@@ -1,12 +1,13 @@
 -- The reply where there is no model, from the refutation that a store keeps.
-use Rattle.std.proofs.Common.{Option, ◌≡◌, ◌∙◌, sym, ap, subst, refl, ℕ, zero, suc, ◌<◌, ◌≤◌, Bool, true, false, List, [], ◌∷◌, ◌++◌, append-nil, codes, length, map, nat_eq, slice_index, All, Some, IsTrue, Result, Ok, Err, OnOk, le-leb, arith, inl, inr}
+use Rattle.std.proofs.Common.{Option, ◌≡◌, ◌∙◌, sym, ap, subst, refl, ℕ, zero, suc, ◌<◌, ◌≤◌, Bool, true, false, List, [], ◌∷◌, ◌++◌, append-nil, codes, length, map, nat_eq, slice_index, All, Contains, Some, get_or, IsTrue, Result, Ok, Err, OnOk, le-leb, arith, inl, inr}
 use Rattle.std.proofs.lemmas.Bool.{and_from, and_parts, cases_Bool, eqb-true, eqb-false}
-use Rattle.std.proofs.lemmas.List.Elements.{All-contains, All-head, All-tail}
+use Rattle.std.proofs.lemmas.List.Elements.{All-contains, All-head, All-tail, Contains-append_cases, Contains-get_or}
 use Rattle.craig_spec.specs.Literal.{Clause, Literal}
 use Rattle.craig_spec.specs.Truth.{Assignment}
 use Rattle.craig_spec.specs.Chain.{IsTold, Told, ToldStep, clause_told}
-use Rattle.craig_spec.specs.Circuit.{Circuit, IsStrict, circuit_value}
-use Rattle.craig_spec.specs.Cut.{AreChosenCuts, PartClause, PartLiteral, with_units}
+use Rattle.craig_spec.specs.Circuit.{Circuit, IsCircuit, IsStrict, Output, circuit_cone, circuit_value}
+use Rattle.craig_spec.specs.Cut.{AreChosenCuts, PartClause, PartLiteral, is_on_side_a, side_a, with_units}
+use Rattle.craig_spec.specs.DimacsText.{greatest_of_clauses}
 use Rattle.craig_spec.specs.DrawnFromOneRefutation.{HaveRootValues, IsRefutationOf, occurrence_labelling}
 use Rattle.craig_spec.specs.FailedAssumptions.{NamesFailed}
 use Rattle.craig_spec.specs.Needed.{IsNeededPart}
@@ -15,20 +16,24 @@ use Rattle.craig_spec.specs.Sequence.{IsOutputAt, IsSequence}
 use Rattle.craig_base.specs.declared.script_part.Part.{Part}
 use Rattle.craig_label.specs.Sides.{IsSides, SidesView}
 use Rattle.craig_aig.specs.declared.node.Node.{Node}
-use Rattle.craig_aiger.specs.AsciiText.{aag_text}
 use Rattle.craig_aiger.specs.Layouts.{Layout, circuit_of, dense_assignment}
-use Rattle.craig_aiger.specs.RoundTrip.{ReadsAs}
+use Rattle.craig_aiger.specs.RoundTrip.{SameCircuit}
+use Rattle.craig_aiger.specs.declared.family.Family.{Family}
+use Rattle.craig_aiger.specs.declared.out_name.OutName.{OutName}
 use Rattle.craig_itp.specs.Interpolants.{NeededHaveParts}
 use Rattle.craig_itp.specs.Labellings.{IsEmptyRoot, cut_value}
 use Rattle.craig_itp.specs.PartialValues.{MarksByStrength, OutputsFollow}
 use Rattle.craig_search.specs.Verdict.{Assumptions}
+use Rattle.craig_script.specs.declared.setting_words.FormatWord.{FormatWord}
 use Rattle.craig_script.specs.declared.setting_words.SystemWord.{SystemWord}
-use Rattle.craig_top.specs.Blocks.{Block, ascii_format, lined_bytes}
+use Rattle.craig_top.specs.Blocks.{Block, lined_bytes, printed_output}
+use Rattle.craig_top.specs.Formats.{ReadsBack, format_of, greatest_named}
+use Rattle.craig_top.specs.GivenState.{ScriptSettings}
 use Rattle.craig_top.specs.CutLayout.{IsCutLayout}
 use Rattle.craig_top.specs.LastRefutation.{IsRefutationBy}
 use Rattle.craig_top.specs.Named.{AreDifferent, bare_clauses, named_part_clause, named_step}
 use Rattle.craig_top.specs.Naming.{named_assumptions, named_clause, written}
-use Rattle.craig_top.specs.RefutationReply.{AreByStrength, AreNoHigher, SystemLiterals, marked, system_outputs}
+use Rattle.craig_top.specs.RefutationReply.{AreByStrength, AreNoHigher, SystemLiterals, marked, outputs_at, system_outputs}
 use Rattle.craig_top.specs.ReplyTexts.{failed_text, unsatisfiable_text}
 use Rattle.craig_top.specs.RestsOn.{RestsOn}
 use Rattle.craig_top.specs.Sides.{AreSidesOf, parted, with_assumed}
@@ -44,7 +49,8 @@ use Rattle.craig_top.proofs.NotedLemmas.{AreOriginalsOf, AreOriginalsOf-rests}
 use Rattle.craig_top.proofs.OutputLemmas.{AreReadOf, inputs-used, outputs-read}
 use Rattle.craig_top.proofs.SequenceLemmas.{HasCutValues, IsSequence-laid, inner-value, one_is_true}
 use Rattle.craig_top.proofs.SystemsLemmas.{AgreeInTurn, AreReadSystems, IsReadSystem, read_systems, systems-agree}
-use Rattle.craig_spec.proofs.MemberLemmas.{Contains-from_slice_get, slice_get-below, slice_get-within}
+use Rattle.craig_top.proofs.FormatLemmas.{above-clauses, greatest-with_units, same_as_itself, within-parts}
+use Rattle.craig_spec.proofs.MemberLemmas.{Contains-cases, Contains-from_image, Contains-front, Contains-later, Contains-from_slice_get, slice_get-below, slice_get-within}
 
 -- the accepted clauses are over the names
 pub over_parted : (names : List ℕ) (accepted : List (Part × Clause)) → HaveNames names accepted → AreOver (length names) (bare_clauses (parted accepted))
@@ -63,6 +69,22 @@ cut_values follow sides is_sides t root empty have marks = record {
   refuted = follow.refuted marks sides t root empty is_sides.parts have;
   step = follow.step marks sides t root empty is_sides.parts have;
 }
+
+-- an output of systems stands at the place of its cut among those of one of them
+output-at : (family : Option Family) (cuts literals : List ℕ) (o : OutName × ℕ) → Contains (outputs_at family cuts literals) o → (place : ℕ) × (cut : ℕ) × IsOutputAt cuts literals place cut o.1
+output-at family [] literals o (k, within, at) = absurd (omega (arith, within))
+output-at family (cut ∷ cuts) [] o (k, within, at) = absurd (omega (arith, within))
+output-at family (cut ∷ cuts) (l ∷ literals) o here = elim (Contains-cases (record { family = family; cut = cut }, l) (outputs_at family cuts literals) o here) [
+  | inl first ↦ (0, cut, record { cut_is = refl; literal_is = ap (λ (p : OutName × ℕ). Some p.1) first })
+  | inr later ↦ (let found = output-at family cuts literals o later in (suc found.0, found.1, record { cut_is = found.2.cut_is; literal_is = found.2.literal_is }))
+]
+
+output-of_system : (cuts : List ℕ) (o : OutName × ℕ) (systems : List SystemLiterals) → Contains (system_outputs cuts systems) o → (y : SystemLiterals) × Contains systems y × (place : ℕ) × (cut : ℕ) × IsOutputAt cuts y.literals place cut o.1
+output-of_system cuts o [] (k, within, at) = absurd (omega (arith, within))
+output-of_system cuts o (y ∷ systems) here = elim (Contains-append_cases (outputs_at y.system.family cuts y.literals) (system_outputs cuts systems) o here) [
+  | inl own ↦ (let found = output-at y.system.family cuts y.literals o own in (y, Contains-front y systems, found.0, found.1, found.2))
+  | inr other ↦ (let found = output-of_system cuts o systems other in (found.0, Contains-later y systems found.0 found.1, found.2, found.3, found.4))
+]
 
 module _ (names : List ℕ) (differ : AreDifferent names) (accepted : List (Part × Clause)) (failed : Assumptions) (stored : HaveNames names (with_assumed accepted failed)) (sides : SidesView) (are : AreSidesOf (parted (with_assumed accepted failed)) sides)
     (t : Told) (stand : IsTold t) (root : ℕ) (rests : RestsOn (with_assumed accepted failed) t root) (part : List ToldStep) (refuting : IsRefutingPart t root part) (empty : clause_told t.steps root ≡ Some [])
@@ -174,31 +196,55 @@ module _ (names : List ℕ) (differ : AreDifferent names) (accepted : List (Part
 
   -- the layout is read back as the outputs of the written systems
   module _ (system : SystemWord) (marks : List (ℕ × Label)) (label : ℕ → Label) (has : HasMarks names marks label) (layout : Layout) (laid : IsCutLayout names sides t.steps root cuts (systems_of system label) layout) where
-    read_back : (reads : ReadsAs layout (aag_text layout)) → AreReadSystems names sides t.steps root laid.nodes cuts reads.0 (systems_of system (label_of_mark marks)) (reads.0).outputs
-    read_back reads =
+    read_back : (c : Circuit) → SameCircuit layout c → AreReadSystems names sides t.steps root laid.nodes cuts c (systems_of system (label_of_mark marks)) c.outputs
+    read_back c same =
         let groups = laid.system_outputs.groups in
-        read_systems names sides t.steps root laid.nodes cuts reads.0 groups (systems_of system (label_of_mark marks)) (reads.0).outputs
+        read_systems names sides t.steps root laid.nodes cuts c groups (systems_of system (label_of_mark marks)) c.outputs
         (subst (λ ds. AgreeInTurn names ds (systems_of system (label_of_mark marks))) (sym laid.system_outputs.systems_are) (systems-agree names system marks label has))
         laid.system_outputs.interpolants
-        (subst (λ os. AreReadOf names laid.nodes reads.0 os (reads.0).outputs) laid.system_outputs.outputs_are (outputs-read names laid.nodes laid.outputs layout laid.laid_out laid.functions reads.0 reads.2))
+        (subst (λ os. AreReadOf names laid.nodes c os c.outputs) laid.system_outputs.outputs_are (outputs-read names laid.nodes laid.outputs layout laid.laid_out laid.functions c same))
 
-    pub refutation_reply : (limit : Option ℕ) → IsNeededPart t.steps root part → IsStrict (circuit_of layout) → (printed : List Literal) → printed ≡ named_clause names (map (λ (a : Part × Literal). a.1) failed) → ReadsAs layout (aag_text layout)
+    -- an input of the layout is a variable of the clauses or of a failed assumption
+    input-occurs : IsCircuit (circuit_of layout) → (x : ℕ) → Contains layout.inputs x → x ≤ greatest_of_clauses (bare_clauses with_failed)
+    input-occurs is_circuit x here =
+        let c = circuit_of layout in
+        let same = same_as_itself layout is_circuit in
+        let read = read_back c same in
+        let used = inputs-used names laid.nodes laid.outputs layout laid.laid_out laid.functions c same x here in
+        let printed = Contains-from_image printed_output (system_outputs cuts read.systems) used.0 (subst (λ os. Contains os used.0) read.outputs_are used.1) in
+        let own = output-of_system cuts printed.0 read.systems printed.1 in
+        let y = own.0 in
+        let sequence = system_sequence laid.nodes c y (All-contains (IsReadSystem names sides t.steps root laid.nodes cuts c) read.systems y read.each own.1) in
+        let shared = (sequence.separate own.2 own.3 printed.0.1 own.4).shared x (subst (λ (o : Output). Contains (circuit_cone c o.literal) x) printed.2 used.2) in
+        omega (arith, above-clauses x (side_a with_failed own.3) shared.0, within-parts (is_on_side_a own.3) with_failed)
+
+    -- so no input is above what no variable of theirs is above
+    pub inputs-within : (settings : ScriptSettings) (top : ℕ) → IsCircuit (circuit_of layout) → greatest_named (stored_state settings names accepted) (named_assumptions names failed) ≤ top → All (λ x. x ≤ top) layout.inputs
+    inputs-within settings top is_circuit named k d within =
+        let x = get_or layout.inputs k d in
+        let below = input-occurs is_circuit x (Contains-get_or layout.inputs k d within) in
+        let same = greatest-with_units (stored_state settings names accepted) (named_assumptions names failed) in
+        omega (arith, below, same, named)
+
+    pub refutation_reply : (format : FormatWord) (limit : Option ℕ) (top : ℕ) → IsNeededPart t.steps root part → IsStrict (circuit_of layout) → (printed : List Literal) → printed ≡ named_clause names (map (λ (a : Part × Literal). a.1) failed) → ReadsBack (format_of format top) layout
         → (assumptions : List PartLiteral) → NamesFailed assumptions (named_assumptions names failed)
-        → IsRefutationBy names t.steps (Some root) (stored_state (record { parts = sides.parts; system = system; marks = marks; cuts = cuts; limit = limit }) names accepted) assumptions (failed_text printed ++ lined_bytes (codes "a") (aag_text layout))
-    refutation_reply limit needed strict printed is_printed reads assumptions names_failed =
+        → greatest_named (stored_state (record { parts = sides.parts; system = system; marks = marks; cuts = cuts; format = format; limit = limit }) names accepted) assumptions ≡ top
+        → IsRefutationBy names t.steps (Some root) (stored_state (record { parts = sides.parts; system = system; marks = marks; cuts = cuts; format = format; limit = limit }) names accepted) assumptions (failed_text printed ++ lined_bytes (codes "a") ((format_of format top).write layout))
+    refutation_reply format limit top needed strict printed is_printed reads assumptions names_failed is_top =
         let c = reads.0 in
-        let read = read_back reads in
-        let block : Block = record { letter = codes "a"; format = ascii_format; outputs = system_outputs cuts read.systems; bytes = aag_text layout } in
+        let read = read_back c reads.2 in
+        let written = (format_of format top).write layout in
+        let block : Block = record { letter = codes "a"; format = format_of format top; outputs = system_outputs cuts read.systems; bytes = written } in
         let blocks : List Block = block ∷ [] in (
           record {
             failed = named_assumptions names failed;
             names_failed = names_failed;
             block = block;
-            text_is = ap (λ bytes. failed_text printed ++ bytes) (sym (append-nil (lined_bytes (codes "a") (aag_text layout))))
+            text_is = ap (λ bytes. failed_text printed ++ bytes) (sym (append-nil (lined_bytes (codes "a") written)))
                 ∙ ap (λ ls. unsatisfiable_text ls blocks) (is_printed ∙ sym (literals-named names failed));
             gives = record {
               letter = refl;
-              format = refl;
+              format = ap (format_of format) (sym is_top);
               circuit = c;
               is_text = record {
                 layout = layout;

@@ -1,5 +1,5 @@
 -- What a refuting reply has, what the reply to a line is, and what the line does to the given state.
-use Rattle.std.proofs.Common.{◌≡◌, ◌∙◌, sym, ap, subst, refl, ◌⊎◌, inl, inr, ℕ, List, [], ◌∷◌, ◌++◌, append_assoc, append-nil, length, map, codes, decimal, Contains, Option, slice_get, Result, Ok, Err, ℤ, arith}
+use Rattle.std.proofs.Common.{◌≡◌, ◌∙◌, sym, ap, subst, refl, inl, inr, ℕ, List, [], ◌∷◌, ◌++◌, append_assoc, append-nil, length, map, codes, decimal, Contains, Option, slice_get, Result, Ok, Err, ℤ, arith}
 use Rattle.std.proofs.lemmas.List.{length-map, map-append}
 use Rattle.std.proofs.lemmas.List.Elements.{All-contains}
 use Rattle.craig_spec.specs.Circuit.{Circuit, Output}
@@ -12,32 +12,34 @@ use Rattle.craig_aiger.specs.OutNames.{family_text}
 use Rattle.craig_aiger.specs.declared.family.Family.{Family}
 use Rattle.craig_aiger.specs.declared.out_name.OutName.{OutName}
 use Rattle.craig_script.specs.declared.command.Command.{Command}
-use Rattle.craig_script.specs.declared.command.Command.TheVariants.{Nothing, Parts, Add, System, Mark, Cuts, Limit, Solve}
+use Rattle.craig_script.specs.declared.command.Command.TheVariants.{Nothing, Parts, Add, System, Mark, Cuts, Limit, Format, Solve}
 use Rattle.craig_script.specs.declared.line.Line.{Line}
 use Rattle.craig_script.specs.declared.cut_word.CutWord.{CutWord}
 use Rattle.craig_script.specs.declared.cut_word.CutWord.TheVariants as cut
+use Rattle.craig_script.specs.declared.setting_words.FormatWord.{FormatWord}
 use Rattle.craig_script.specs.declared.setting_words.MarkWord.{MarkWord}
 use Rattle.craig_script.specs.declared.setting_words.MarkWord.TheVariants as mark
 use Rattle.craig_script.specs.declared.setting_words.SystemWord.{SystemWord}
 use Rattle.craig_script.specs.declared.refusal.Refusal.{Refusal}
-use Rattle.craig_top.specs.Blocks.{Block, IsCircuitText, ascii_format, lined_bytes, printed_output}
+use Rattle.craig_top.specs.Blocks.{Block, IsCircuitText, lined_bytes, printed_output}
+use Rattle.craig_top.specs.Formats.{CircuitFormat}
 use Rattle.craig_top.specs.GivenState.{ScriptSettings, State, next, obeyed_if_admitted, reading, script_literal}
 use Rattle.craig_top.specs.ModelReply.{IsModelReply}
 use Rattle.craig_top.specs.Named.{bare_clauses}
 use Rattle.craig_top.specs.RefutationReply.{GivesInterpolants, IsRefutationReply, SystemLiterals, outputs_at, system_outputs}
 use Rattle.craig_top.specs.Reply.{Reply, RepliesToReading, assumptions_of}
-use Rattle.craig_top.specs.ReplyContents.{MayAnswer, with_limit, AreLiteralsOf, AreNamedBy, HasAccepted, HasCuts, HaveOutputs, IsDivided, IsMarkFor, IsTextOf, IsStrictText, PrintsModel, PrintsRefutation, with_mark, with_system}
+use Rattle.craig_top.specs.ReplyContents.{MayAnswer, with_format, with_limit, AreLiteralsOf, AreNamedBy, HasAccepted, HasCuts, HaveOutputs, IsDivided, IsMarkFor, IsTextOf, IsStrictText, PrintsRefutation, with_mark, with_system}
 use Rattle.craig_top.specs.ReplyTexts.{failed_text, literals_text, refusal_text}
 use Rattle.craig_top.specs.WrittenSystems.{written_systems}
 use Rattle.craig_top.proofs.CircuitShapeLemmas.{all_are_used, gates_are_conjunctions, gates_stand_once, inputs_rise, operands_are_ordered, outputs_are_literals}
 
 -- ---- texts of circuits
 
-module _ (outputs : List (OutName × ℕ)) (bytes : List ℕ) (c : Circuit) (text : IsCircuitText ascii_format outputs bytes c) where
-  pub read_as : IsTextOf bytes c
+module _ (format : CircuitFormat) (outputs : List (OutName × ℕ)) (bytes : List ℕ) (c : Circuit) (text : IsCircuitText format outputs bytes c) where
+  pub read_as : IsTextOf format bytes c
   read_as = (text.reads, gates_are_conjunctions c text.is_circuit, outputs_are_literals c text.is_circuit, text.used)
 
-  pub strict_text : IsStrictText bytes
+  pub strict_text : IsStrictText format bytes
   strict_text = (text.layout, text.written, inputs_rise _ text.strict, operands_are_ordered _ text.strict, gates_stand_once _ text.strict, all_are_used _ text.strict)
 
   pub have_outputs : HaveOutputs outputs c.outputs
@@ -82,18 +84,18 @@ module _ (cuts : List ℕ) where
 
 -- ---- blocks
 
-module _ (clauses : List PartClause) (settings : ScriptSettings) (block : Block) (gives : GivesInterpolants clauses settings block) where
-  ascii_text : IsCircuitText ascii_format block.outputs block.bytes gives.circuit
-  ascii_text = subst (λ format. IsCircuitText format block.outputs block.bytes gives.circuit) gives.format gives.is_text
+module _ (clauses : List PartClause) (settings : ScriptSettings) (format : CircuitFormat) (block : Block) (gives : GivesInterpolants clauses settings format block) where
+  block_text_of : IsCircuitText format block.outputs block.bytes gives.circuit
+  block_text_of = subst (λ f. IsCircuitText f block.outputs block.bytes gives.circuit) gives.format gives.is_text
 
-  pub block_reads : IsTextOf block.bytes gives.circuit
-  block_reads = read_as block.outputs block.bytes gives.circuit ascii_text
+  pub block_reads : IsTextOf format block.bytes gives.circuit
+  block_reads = read_as format block.outputs block.bytes gives.circuit block_text_of
 
-  pub block_is_strict : IsStrictText block.bytes
-  block_is_strict = strict_text block.outputs block.bytes gives.circuit ascii_text
+  pub block_is_strict : IsStrictText format block.bytes
+  block_is_strict = strict_text format block.outputs block.bytes gives.circuit block_text_of
 
   pub block_outputs : HaveOutputs block.outputs gives.circuit.outputs
-  block_outputs = have_outputs block.outputs block.bytes gives.circuit ascii_text
+  block_outputs = have_outputs format block.outputs block.bytes gives.circuit block_text_of
 
   -- the literals of each system are a sequence
   pub system_sequence : (y : SystemLiterals) → Contains gives.systems y → IsSequence clauses settings.parts settings.cuts gives.circuit y.literals
@@ -154,6 +156,9 @@ module _ (state : State) (line : Line) (text : List ℕ) where
   pub reply_to_limit : Reply state line text → (limit : Option ℕ) → reading state line ≡ Ok (Limit limit) → text ≡ codes "ok\n"
   reply_to_limit reply limit is = reply_to_reading reply (Ok (Limit limit)) is
 
+  pub reply_to_format : Reply state line text → (f : FormatWord) → reading state line ≡ Ok (Format f) → text ≡ codes "ok\n"
+  reply_to_format reply f is = reply_to_reading reply (Ok (Format f)) is
+
   pub reply_to_add : Reply state line text → (part : ℕ) (lits : List ℤ) → reading state line ≡ Ok (Add part lits) → text ≡ codes "ok\n"
   reply_to_add reply part lits is = reply_to_reading reply (Ok (Add part lits)) is
 
@@ -180,7 +185,7 @@ module _ (state : State) (line : Line) where
   next_after_add part lits is = subst (HasAccepted state part lits) (sym (next_by_reading (Ok (Add part lits)) is)) (refl, refl)
 
   pub next_after_parts : (n : ℕ) → reading state line ≡ Ok (Parts n) → IsDivided state n (next state line)
-  next_after_parts n is = subst (IsDivided state n) (sym (next_by_reading (Ok (Parts n)) is)) (refl, refl, refl, refl, refl, refl)
+  next_after_parts n is = subst (IsDivided state n) (sym (next_by_reading (Ok (Parts n)) is)) (refl, refl, refl, refl, refl, refl, refl)
 
   pub next_after_system : (s : SystemWord) → reading state line ≡ Ok (System s) → next state line ≡ with_system state s
   next_after_system s is = next_by_reading (Ok (System s)) is
@@ -192,6 +197,9 @@ module _ (state : State) (line : Line) where
 
   pub next_after_limit : (limit : Option ℕ) → reading state line ≡ Ok (Limit limit) → next state line ≡ with_limit state limit
   next_after_limit limit is = next_by_reading (Ok (Limit limit)) is
+
+  pub next_after_format : (f : FormatWord) → reading state line ≡ Ok (Format f) → next state line ≡ with_format state f
+  next_after_format f is = next_by_reading (Ok (Format f)) is
 
   pub next_after_cuts : (w : CutWord) → reading state line ≡ Ok (Cuts w) → HasCuts state w (next state line)
   next_after_cuts cut.All is = next_by_reading (Ok (Cuts cut.All)) is

@@ -1,5 +1,5 @@
 -- The verdict on a solve, by the root of its answer.
-use Rattle.std.proofs.Common.{◌≡◌, ◌≢◌, ◌∙◌, ◌<◌, ◌≤◌, ◌&&◌, sym, ap, subst, refl, arith, max, map, nat_eq, nat_le, not, Bool, true, false, Some, None, ℕ, ℤ, List, [], ◌∷◌, ◌++◌, length, get_or, All, Contains, Option, Result, Ok, Err, OnOk, inl, inr, if◌then◌else◌}
+use Rattle.std.proofs.Common.{◌≡◌, ◌≢◌, ◌∙◌, ◌<◌, ◌≤◌, ◌&&◌, sym, ap, subst, refl, arith, max, map, nat_eq, nat_le, not, Bool, true, false, Some, ℕ, ℤ, List, [], ◌∷◌, ◌++◌, length, get_or, All, Contains, Option, Result, Ok, Err, OnOk, inl, inr, if◌then◌else◌}
 use Rattle.craig_base.proofs.LiteralsLemmas.{negation-differs}
 use Rattle.craig_spec.proofs.MemberLemmas.{Contains-image, Contains-one}
 use Rattle.std.specs.Int.RustNames.{unsigned_abs}
@@ -15,7 +15,7 @@ use Rattle.craig_base.specs.Clauses.{IsNormal}
 use Rattle.craig_base.specs.declared.clause_id.ClauseId.{ClauseId}
 use Rattle.craig_base.specs.declared.script_part.Part.{Part}
 use Rattle.craig_script.specs.declared.command.Command.{Command}
-use Rattle.craig_script.specs.declared.command.Command.TheVariants.{Nothing, Parts, Add, System, Mark, Cuts, Limit, Solve}
+use Rattle.craig_script.specs.declared.command.Command.TheVariants.{Nothing, Parts, Add, System, Mark, Cuts, Limit, Format, Solve}
 use Rattle.craig_script.specs.declared.refusal.Refusal.{Refusal}
 use Rattle.craig_search.specs.Tells.{IsUnitStep}
 use Rattle.craig_search.specs.Verdict.{AreFirstPlaces, Assumptions, at_places, units}
@@ -26,6 +26,7 @@ use Rattle.craig_solver.specs.Answer.{IsAnswer, accepted_clauses}
 use Rattle.craig_solver.specs.Told.{IsAcceptedStep, IsRefutation, TellsAnswer}
 use Rattle.craig_script.specs.declared.refusal.Refusal.TheVariants.{CutRange, LateParts, LimitRange, Range, Variable}
 use Rattle.craig_script.specs.Reading.{admitted, is_within, variable_limit}
+use Rattle.craig_top.specs.Formats.{greatest_named}
 use Rattle.craig_top.specs.GivenState.{ScriptSettings, State}
 use Rattle.craig_top.specs.LastRefutation.{SessionView, IsByLastRoot, IsRefutationBy, IsSolveReplyBy, ReadingIsByLastRoot}
 use Rattle.craig_base.specs.LemmaRule.{MeetsLemmaRule}
@@ -102,6 +103,7 @@ ok_reply state (System system) text something other is = is
 ok_reply state (Mark name mark) text something other is = is
 ok_reply state (Cuts cuts) text something other is = is
 ok_reply state (Limit limit) text something other is = is
+ok_reply state (Format format) text something other is = is
 ok_reply state (Solve pairs) text something other is = absurd (other pairs refl)
 
 -- and that reply is drawn from no refutation
@@ -113,6 +115,7 @@ no_refutation view state (System system) text other = tt
 no_refutation view state (Mark name mark) text other = tt
 no_refutation view state (Cuts cuts) text other = tt
 no_refutation view state (Limit limit) text other = tt
+no_refutation view state (Format format) text other = tt
 no_refutation view state (Solve pairs) text other = absurd (other pairs refl)
 
 -- ---- what is known of the lent clauses and assumptions
@@ -161,15 +164,15 @@ model-reply (Err x) state names kept last clauses pairs old new same found = tt
 
 -- so is a refutation by the last root, under assumptions of which these failed
 pub refuted-reply : {T E : Type 0} (r : Result T E) (state before : State) (names : List ℕ) (kept : List ToldStep) (last : Option ℕ) (root : ℕ) (failed assumptions : List PartLiteral) (pairs : List (ℕ × ℤ)) (old new : List ℕ)
-    → before ≡ state → last ≡ Some root → assumptions ≡ assumptions_of pairs → NamesFailed assumptions failed
-    → OnOk r ((text : List ℕ) × ((given : List PartLiteral) → NamesFailed given failed → IsRefutationBy names kept (Some root) before given text) × (new ≡ old ++ text))
+    → (top : ℕ) → before ≡ state → last ≡ Some root → assumptions ≡ assumptions_of pairs → NamesFailed assumptions failed → greatest_named before assumptions ≡ top
+    → OnOk r ((text : List ℕ) × ((given : List PartLiteral) → NamesFailed given failed → greatest_named before given ≡ top → IsRefutationBy names kept (Some root) before given text) × (new ≡ old ++ text))
     → OnOk r ((text : List ℕ) × IsSolveReplyBy names kept last state pairs text × (new ≡ old ++ text))
-refuted-reply (Ok x) state before names kept last root failed assumptions pairs old new same root_is are names_failed found =
-    let by_root : IsRefutationBy names kept (Some root) before assumptions found.0 = found.1 assumptions names_failed in
+refuted-reply (Ok x) state before names kept last root failed assumptions pairs old new top same root_is are names_failed is_top found =
+    let by_root : IsRefutationBy names kept (Some root) before assumptions found.0 = found.1 assumptions names_failed is_top in
     let by_last : IsRefutationBy names kept last before assumptions found.0 = subst (λ (l : Option ℕ). IsRefutationBy names kept l before assumptions found.0) (sym root_is) by_root in
     let by_pairs : IsRefutationBy names kept last before (assumptions_of pairs) found.0 = subst (λ (xs : List PartLiteral). IsRefutationBy names kept last before xs found.0) are by_last in
     (found.0, inr (inl (subst (λ (s : State). IsRefutationBy names kept last s (assumptions_of pairs) found.0) same by_pairs)), found.2)
-refuted-reply (Err x) state before names kept last root failed assumptions pairs old new same root_is are names_failed found = tt
+refuted-reply (Err x) state before names kept last root failed assumptions pairs old new top same root_is are names_failed is_top found = tt
 
 -- the accepted clauses by themselves, as they were written
 bare-written : (names : List ℕ) (accepted : List (Part × Clause)) → map (named_clause names) (map (λ (b : Part × Clause). b.1) accepted) ≡ bare_clauses (written names accepted)
@@ -198,14 +201,14 @@ unknown-reply (Ok x) state names kept last held accepted given known a lemmas pa
 unknown-reply (Err x) state names kept last held accepted given known a lemmas pairs old new distinct over same is_state is answer found = tt
 
 -- a refutation of the material is one of what was stored
-pub refuted-stored : (state : State) (settings now_settings : ScriptSettings) (names : List ℕ) (before kept : List ToldStep) (root : ℕ) (failed : List PartLiteral) (accepted now : List (Part × Clause)) (old new : List ℕ) → stored_state settings names accepted ≡ state → now ≡ accepted → now_settings ≡ settings → before ≡ kept
-    → (text : List ℕ) × ((given : List PartLiteral) → NamesFailed given failed → IsRefutationBy names before (Some root) (stored_state now_settings names now) given text) × (new ≡ old ++ text)
-    → (text : List ℕ) × ((given : List PartLiteral) → NamesFailed given failed → IsRefutationBy names kept (Some root) state given text) × (new ≡ old ++ text)
-refuted-stored state settings now_settings names before kept root failed accepted now old new e same many told found =
+pub refuted-stored : (state : State) (settings now_settings : ScriptSettings) (names : List ℕ) (before kept : List ToldStep) (root : ℕ) (failed : List PartLiteral) (accepted now : List (Part × Clause)) (old new : List ℕ) (top : ℕ) → stored_state settings names accepted ≡ state → now ≡ accepted → now_settings ≡ settings → before ≡ kept
+    → (text : List ℕ) × ((given : List PartLiteral) → NamesFailed given failed → greatest_named (stored_state now_settings names now) given ≡ top → IsRefutationBy names before (Some root) (stored_state now_settings names now) given text) × (new ≡ old ++ text)
+    → (text : List ℕ) × ((given : List PartLiteral) → NamesFailed given failed → greatest_named state given ≡ top → IsRefutationBy names kept (Some root) state given text) × (new ≡ old ++ text)
+refuted-stored state settings now_settings names before kept root failed accepted now old new top e same many told found =
     let is : stored_state now_settings names now ≡ state = ap (λ n. stored_state n names now) many ∙ ap (stored_state settings names) same ∙ e in (
       found.0,
-      λ given names_failed. subst (λ (s : State). IsRefutationBy names kept (Some root) s given found.0) is
-          (subst (λ steps. IsRefutationBy names steps (Some root) (stored_state now_settings names now) given found.0) told (found.1 given names_failed)),
+      λ given names_failed is_top. subst (λ (s : State). IsRefutationBy names kept (Some root) s given found.0) is
+          (subst (λ steps. IsRefutationBy names steps (Some root) (stored_state now_settings names now) given found.0) told (found.1 given names_failed (ap (λ (s : State). greatest_named s given) is ∙ is_top))),
       found.2,
     )
 

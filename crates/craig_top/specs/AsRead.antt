@@ -1,7 +1,7 @@
 -- What holds of each command that a line is read as.
 use Rattle.std.specs.Prelude.{◌≢◌, []}
 use Rattle.craig_script.specs.declared.command.Command.{Command}
-use Rattle.craig_script.specs.declared.command.Command.TheVariants.{Nothing, Parts, Add, System, Mark, Cuts, Limit, Solve}
+use Rattle.craig_script.specs.declared.command.Command.TheVariants.{Nothing, Parts, Add, System, Mark, Cuts, Limit, Format, Solve}
 use Rattle.craig_script.specs.declared.cut_word.CutWord.TheVariants as cut
 
 -- where cuts are chosen there is one
@@ -14,4 +14,5 @@ IsAsRead (Mark name mark) = Unit {0}
 IsAsRead (Cuts cut.All) = Unit {0}
 IsAsRead (Cuts (cut.Chosen numbers)) = numbers ≢ []
 IsAsRead (Limit limit) = Unit {0}
+IsAsRead (Format format) = Unit {0}
 IsAsRead (Solve pairs) = Unit {0}

@@ -1,23 +1,11 @@
 -- The blocks of a refuting reply, each the text of one circuit.
-use Rattle.std.specs.Prelude.{◌≡◌, ℕ, List, ◌++◌, map, length, codes, decimal, Option, Some, Contains}
+use Rattle.std.specs.Prelude.{◌≡◌, ℕ, List, ◌++◌, map, length, codes, decimal, Some, Contains}
 use Rattle.std.specs.List.{flat_map}
-use Rattle.craig_spec.specs.AigerReading.{read_aag}
 use Rattle.craig_spec.specs.Circuit.{Circuit, Output, IsCircuit, IsStrict, circuit_cone}
-use Rattle.craig_aiger.specs.AsciiText.{aag_text}
 use Rattle.craig_aiger.specs.Layouts.{Layout, circuit_of}
 use Rattle.craig_aiger.specs.OutNames.{name_text}
 use Rattle.craig_aiger.specs.declared.out_name.OutName.{OutName}
-
--- a way to write a layout, and to read it back
-pub record CircuitFormat : Type 0 where
-  -- the bytes of a layout
-  pub write : Layout → List ℕ
-  -- the circuit that bytes are read as
-  pub read : List ℕ → Option Circuit
-
--- AIGER in its ASCII form
-abbrev pub ascii_format : CircuitFormat
-ascii_format = record { write = aag_text; read = read_aag }
+use Rattle.craig_top.specs.Formats.{CircuitFormat}
 
 -- a block of a reply
 pub record Block : Type 0 where

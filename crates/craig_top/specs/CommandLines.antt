@@ -6,11 +6,13 @@ use Rattle.std.specs.Fmt.{decimal, signed_decimal}
 use Rattle.std.specs.Int.RustNames.{unsigned_abs}
 use Rattle.craig_script.specs.declared.line.Line.TheVariants.{Text}
 use Rattle.craig_script.specs.declared.cut_word.CutWord.TheVariants as cut
+use Rattle.craig_script.specs.declared.setting_words.FormatWord.{FormatWord}
+use Rattle.craig_script.specs.declared.setting_words.FormatWord.TheVariants as format
 use Rattle.craig_script.specs.declared.setting_words.MarkWord.{MarkWord}
 use Rattle.craig_script.specs.declared.setting_words.MarkWord.TheVariants as mark
 use Rattle.craig_script.specs.declared.setting_words.SystemWord.{SystemWord}
 use Rattle.craig_script.specs.declared.setting_words.SystemWord.TheVariants as system
-use Rattle.craig_script.specs.declared.command.Command.TheVariants.{Parts, Add, System, Mark, Cuts, Limit, Solve}
+use Rattle.craig_script.specs.declared.command.Command.TheVariants.{Parts, Add, System, Mark, Cuts, Limit, Format, Solve}
 use Rattle.craig_top.specs.GivenState.{State, reading}
 
 -- the words that add the clause of these numbers to the part
@@ -69,6 +71,15 @@ abbrev pub limit_words : Option ℕ → List (List ℕ)
 limit_words None = codes "limit" ∷ (codes "none" ∷ [])
 limit_words (Some n) = codes "limit" ∷ (decimal n ∷ [])
 
+-- the word for a format
+abbrev pub format_word : FormatWord → List ℕ
+format_word format.Aag = codes "aag"
+format_word format.Cnf = codes "cnf"
+
+-- the words that set a format
+abbrev pub format_words : FormatWord → List (List ℕ)
+format_words f = codes "format" ∷ (format_word f ∷ [])
+
 -- a limit is from 1 to 100000
 abbrev pub IsLimitInRange : Option ℕ → Type 0
 IsLimitInRange limit = (n : ℕ) → limit ≡ Some n → (1 ≤ n) × (n ≤ 100000)
@@ -96,6 +107,10 @@ EachCutsLine Says = (state : State) (bytes : List ℕ) (cuts : List ℤ) → rea
 -- and as a limit: of the bytes and the limit
 abbrev pub EachLimitLine : (List ℕ → Option ℕ → Type 0) → Type 0
 EachLimitLine Says = (state : State) (bytes : List ℕ) (limit : Option ℕ) → reading state (Text bytes) ≡ Ok (Limit limit) → Says bytes limit
+
+-- and as a format: of the bytes and the format
+abbrev pub EachFormatLine : (List ℕ → FormatWord → Type 0) → Type 0
+EachFormatLine Says = (state : State) (bytes : List ℕ) (f : FormatWord) → reading state (Text bytes) ≡ Ok (Format f) → Says bytes f
 
 -- what is said holds of each line that is read in a state as an addition: of the state, the bytes, the part and the numbers
 abbrev pub EachAddLine : (State → List ℕ → ℕ → List ℤ → Type 0) → Type 0

@@ -1,17 +1,18 @@
 -- What the accepted lines of a script have said so far.
-use Rattle.std.specs.Prelude.{ℕ, ◌+◌, Bool, true, false, List, [], ◌∷◌, ◌++◌, map, Option, None, Result, Ok, Err, ℤ, pos, negsuc}
+use Rattle.std.specs.Prelude.{ℕ, ◌+◌, Bool, true, false, List, [], ◌∷◌, ◌++◌, map, Option, Result, Ok, Err, ℤ, pos, negsuc}
 use Rattle.std.specs.Int.RustNames.{unsigned_abs}
 use Rattle.craig_spec.specs.Literal.{Literal}
 use Rattle.craig_spec.specs.Cut.{PartClause, all_cuts}
 use Rattle.craig_spec.specs.PartialInterpolant.{Label, A, AB, B}
 use Rattle.craig_script.specs.declared.cut_word.CutWord.{CutWord}
 use Rattle.craig_script.specs.declared.cut_word.CutWord.TheVariants as cut
+use Rattle.craig_script.specs.declared.setting_words.FormatWord.{FormatWord}
 use Rattle.craig_script.specs.declared.setting_words.MarkWord.{MarkWord}
 use Rattle.craig_script.specs.declared.setting_words.MarkWord.TheVariants as mark
 use Rattle.craig_script.specs.declared.setting_words.SystemWord.{SystemWord}
 use Rattle.craig_script.specs.declared.line.Line.{Line}
 use Rattle.craig_script.specs.declared.command.Command.{Command}
-use Rattle.craig_script.specs.declared.command.Command.TheVariants.{Nothing, Parts, Add, System, Mark, Cuts, Limit, Solve}
+use Rattle.craig_script.specs.declared.command.Command.TheVariants.{Nothing, Parts, Add, System, Mark, Cuts, Limit, Format, Solve}
 use Rattle.craig_script.specs.declared.refusal.Refusal.{Refusal}
 use Rattle.craig_script.specs.Reading.{read_line}
 use Rattle.craig_top.specs.declared.settings.Settings.{Settings}
@@ -26,6 +27,8 @@ pub record ScriptSettings : Type 0 where
   pub marks : List (ℕ × Label)
   -- the cuts whose interpolants are written, in order
   pub cuts : List ℕ
+  -- the format in which circuits are written
+  pub format : FormatWord
   -- how many conflicts a solve may meet, where there is a limit
   pub limit : Option ℕ
 
@@ -36,13 +39,13 @@ pub record State : Type 0 where
   -- the accepted clauses as they were written, over script variables, first to last
   pub accepted : List PartClause
 
--- so many parts and a system, where no variable has a mark, no cut was chosen and there is no limit
-abbrev pub unmarked : ℕ → SystemWord → ScriptSettings
-unmarked parts system = record { parts = parts; system = system; marks = []; cuts = all_cuts parts; limit = None }
+-- so many parts and the settings of the start, where no variable has a mark and no cut was chosen
+abbrev pub unmarked : ℕ → Settings → ScriptSettings
+unmarked parts settings = record { parts = parts; system = settings.system; marks = []; cuts = all_cuts parts; format = settings.format; limit = settings.limit }
 
 -- before the first line: two parts, the settings of the start and no clause
 abbrev pub start : Settings → State
-start settings = record { settings = record (unmarked 2 settings.system) { limit = settings.limit }; accepted = [] }
+start settings = record { settings = unmarked 2 settings; accepted = [] }
 
 -- the literal that a signed number of the script stands for
 abbrev pub script_literal : ℤ → Literal
@@ -73,6 +76,7 @@ set settings (Add part lits) = settings
 set settings (System system) = record settings { system = system }
 set settings (Mark name word) = record settings { marks = settings.marks ++ (name, label_named word) ∷ [] }
 set settings (Limit limit) = record settings { limit = limit }
+set settings (Format format) = record settings { format = format }
 set settings (Cuts word) = record settings { cuts = cuts_named settings.parts word }
 set settings (Solve pairs) = settings
 
@@ -85,6 +89,7 @@ accept accepted (System system) = accepted
 accept accepted (Mark name word) = accepted
 accept accepted (Cuts word) = accepted
 accept accepted (Limit limit) = accepted
+accept accepted (Format format) = accepted
 accept accepted (Solve pairs) = accepted
 
 -- what an admitted command changes

@@ -5,7 +5,7 @@ use Rattle.craig_spec.specs.Cut.{PartLiteral}
 use Rattle.craig_spec.specs.Needed.{IsNeededPart}
 use Rattle.craig_script.specs.declared.line.Line.{Line}
 use Rattle.craig_script.specs.declared.command.Command.{Command}
-use Rattle.craig_script.specs.declared.command.Command.TheVariants.{Nothing, Parts, Add, System, Mark, Cuts, Limit, Solve}
+use Rattle.craig_script.specs.declared.command.Command.TheVariants.{Nothing, Parts, Add, System, Mark, Cuts, Limit, Format, Solve}
 use Rattle.craig_script.specs.declared.refusal.Refusal.{Refusal}
 use Rattle.craig_top.specs.GivenState.{State, reading}
 use Rattle.craig_top.specs.LemmaReply.{IsUnknownReply}
@@ -58,6 +58,7 @@ IsByLastRoot view state (System system) text = Unit {0}
 IsByLastRoot view state (Mark name mark) text = Unit {0}
 IsByLastRoot view state (Cuts cuts) text = Unit {0}
 IsByLastRoot view state (Limit limit) text = Unit {0}
+IsByLastRoot view state (Format format) text = Unit {0}
 IsByLastRoot view state (Solve pairs) text = IsSolveReplyBy view.names view.steps view.root state pairs text
 
 -- so is the reply to a line that is a solve

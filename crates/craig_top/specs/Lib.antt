@@ -1,5 +1,6 @@
 pub mod Appended
 pub mod AsRead
+pub mod Formats
 pub mod Blocks
 pub mod CircuitShape
 pub mod CommandLines

@@ -1,5 +1,5 @@
 -- What the reply to a solve is made from.
-use Rattle.std.specs.Prelude.{◌≡◌, ℕ, List}
+use Rattle.std.specs.Prelude.{◌≡◌, ℕ, ◌≤◌, List}
 use Rattle.craig_spec.specs.Chain.{Told}
 use Rattle.craig_spec.specs.Cut.{AreChosenCuts}
 use Rattle.craig_spec.specs.Literal.{Clause}
@@ -9,7 +9,9 @@ use Rattle.craig_label.specs.Sides.{SidesView}
 use Rattle.craig_search.specs.Verdict.{Assumptions}
 use Rattle.craig_solver.specs.Told.{IsToldOf}
 use Rattle.craig_top.specs.declared.material.Material.{Material}
+use Rattle.craig_top.specs.Formats.{greatest_named}
 use Rattle.craig_top.specs.GivenState.{ScriptSettings, State}
+use Rattle.craig_top.specs.Naming.{named_assumptions}
 use Rattle.craig_top.specs.Sides.{AreSidesOf, parted, with_assumed}
 use Rattle.craig_top.specs.Stored.{HaveNames, settings_of, stored_state}
 
@@ -27,10 +29,12 @@ pub record MaterialView : Type 0 where
   pub told : Told
   -- what the commands have set
   pub settings : ScriptSettings
+  -- the greatest variable that the solve names
+  pub top : ℕ
 
 -- what is lent
 abbrev pub view_of : Material → MaterialView
-view_of m = record { names = m.names.now; accepted = m.clauses.now; failed = m.failed.now; sides = m.sides.now; told = m.store.now.told; settings = settings_of m.sides.now.parts m.choices.now }
+view_of m = record { names = m.names.now; accepted = m.clauses.now; failed = m.failed.now; sides = m.sides.now; told = m.store.now.told; settings = settings_of m.sides.now.parts m.choices.now; top = m.top }
 
 -- the given state that a reply from it is about
 abbrev pub state_of : MaterialView → State
@@ -50,3 +54,5 @@ pub record IsMaterial (m : MaterialView) : Type 0 where
   pub parts : m.settings.parts ≡ m.sides.parts
   -- and cuts of these parts
   pub chosen : AreChosenCuts m.sides.parts m.settings.cuts
+  -- no clause and no failed assumption has a variable above the top
+  pub top : greatest_named (state_of m) (named_assumptions m.names m.failed) ≤ m.top

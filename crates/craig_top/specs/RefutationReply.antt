@@ -10,7 +10,8 @@ use Rattle.craig_spec.specs.Sequence.{IsSequence}
 use Rattle.craig_spec.specs.Strength.{ImplyInTurn}
 use Rattle.craig_aiger.specs.declared.family.Family.{Family}
 use Rattle.craig_aiger.specs.declared.out_name.OutName.{OutName}
-use Rattle.craig_top.specs.Blocks.{Block, IsBlockOf, ascii_format}
+use Rattle.craig_top.specs.Blocks.{Block, IsBlockOf}
+use Rattle.craig_top.specs.Formats.{CircuitFormat, format_in}
 use Rattle.craig_top.specs.GivenState.{ScriptSettings, State}
 use Rattle.craig_top.specs.ReplyTexts.{unsatisfiable_text}
 use Rattle.craig_top.specs.WrittenSystems.{WrittenSystem, written_systems}
@@ -55,12 +56,12 @@ pub record HasInterpolants (clauses : List PartClause) (settings : ScriptSetting
   -- one refutation gives the values of all of them
   pub drawn : DrawnFromOneRefutation clauses settings.parts settings.cuts c (map marked systems)
 
--- the block has the interpolants of the clauses
-pub record GivesInterpolants (clauses : List PartClause) (settings : ScriptSettings) (block : Block) : Type 0 where
+-- the block has the interpolants of the clauses, written in the format
+pub record GivesInterpolants (clauses : List PartClause) (settings : ScriptSettings) (written_in : CircuitFormat) (block : Block) : Type 0 where
   -- the letter of its line
   pub letter : block.letter ≡ codes "a"
-  -- its bytes are AIGER in the ASCII form
-  pub format : block.format ≡ ascii_format
+  -- its bytes are in that format
+  pub format : block.format ≡ written_in
   -- what the bytes are read back as
   pub circuit : Circuit
   -- the bytes are a text of it, with the outputs of the block
@@ -83,4 +84,4 @@ pub record IsRefutationReply (state : State) (assumptions : List PartLiteral) (t
   -- the named literals and then the blocks, and nothing else
   pub text_is : text ≡ unsatisfiable_text (map (λ (f : PartLiteral). f.literal) failed) (block ∷ [])
   -- the block gives interpolants of the clauses and the named assumptions
-  pub gives : GivesInterpolants (with_units state.accepted failed) state.settings block
+  pub gives : GivesInterpolants (with_units state.accepted failed) state.settings (format_in state assumptions) block

@@ -4,7 +4,7 @@ use Rattle.craig_spec.specs.Literal.{Literal}
 use Rattle.craig_spec.specs.Cut.{PartLiteral, with_units}
 use Rattle.craig_script.specs.declared.line.Line.{Line}
 use Rattle.craig_script.specs.declared.command.Command.{Command}
-use Rattle.craig_script.specs.declared.command.Command.TheVariants.{Nothing, Parts, Add, System, Mark, Cuts, Limit, Solve}
+use Rattle.craig_script.specs.declared.command.Command.TheVariants.{Nothing, Parts, Add, System, Mark, Cuts, Limit, Format, Solve}
 use Rattle.craig_script.specs.declared.refusal.Refusal.{Refusal}
 use Rattle.craig_top.specs.GivenState.{State, script_literal, reading}
 use Rattle.craig_top.specs.LemmaReply.{IsUnknownReply}
@@ -34,6 +34,7 @@ RepliesTo state (System system) text = text ≡ ok_text
 RepliesTo state (Mark name mark) text = text ≡ ok_text
 RepliesTo state (Cuts cuts) text = text ≡ ok_text
 RepliesTo state (Limit limit) text = text ≡ ok_text
+RepliesTo state (Format format) text = text ≡ ok_text
 RepliesTo state (Solve pairs) text = IsSolveReply state pairs text
 
 -- a refused line is answered by its number

@@ -2,20 +2,19 @@
 use Rattle.std.specs.Prelude.{◌≡◌, ◌≢◌, ℕ, ◌+◌, Result, List, [], ◌∷◌, ◌++◌, length, map, codes, Option, Some, None, All, IsTrue, slice_get, ℤ, ◌⊎◌, decimal, Ok, Contains}
 use Rattle.std.specs.Int.RustNames.{unsigned_abs}
 use Rattle.std.specs.List.{flat_map, range_with_len}
-use Rattle.craig_spec.specs.AigerReading.{read_aag}
 use Rattle.craig_spec.specs.Circuit.{Circuit, Output}
 use Rattle.craig_spec.specs.Cut.{PartClause, PartLiteral, with_units}
 use Rattle.craig_spec.specs.Literal.{Literal, Clause}
 use Rattle.craig_spec.specs.Truth.{Implies, clause_value}
 use Rattle.craig_spec.specs.PartialInterpolant.{Label, A, AB, B}
 use Rattle.craig_spec.specs.Strength.{IsOrderedByStrength}
-use Rattle.craig_aiger.specs.AsciiText.{aag_text}
 use Rattle.craig_aiger.specs.Layouts.{Layout, circuit_of}
 use Rattle.craig_aiger.specs.OutNames.{family_text}
 use Rattle.craig_aiger.specs.declared.family.Family.{Family}
 use Rattle.craig_aiger.specs.declared.family.Family.TheVariants.{McMillan, Pudlak, Inverse}
 use Rattle.craig_aiger.specs.declared.out_name.OutName.{OutName}
-use Rattle.craig_top.specs.Blocks.{IsCircuitText, ascii_format}
+use Rattle.craig_top.specs.Blocks.{IsCircuitText}
+use Rattle.craig_top.specs.Formats.{CircuitFormat}
 use Rattle.craig_top.specs.CircuitShape.{AllAreUsed, GatesAreConjunctions, GatesStandOnce, InputsAreInCones, NumbersRise, OperandsAreOrdered, OutputsAreLiterals}
 use Rattle.craig_top.specs.GivenState.{ScriptSettings, State, script_literal, next, reading}
 use Rattle.craig_top.specs.ModelReply.{IsModelReply}
@@ -29,6 +28,7 @@ use Rattle.craig_script.specs.declared.setting_words.MarkWord.{MarkWord}
 use Rattle.craig_script.specs.declared.setting_words.MarkWord.TheVariants as mark
 use Rattle.craig_script.specs.declared.refusal.Refusal.{Refusal}
 use Rattle.craig_script.specs.declared.command.Command.TheVariants.{Add, Mark}
+use Rattle.craig_script.specs.declared.setting_words.FormatWord.{FormatWord}
 use Rattle.craig_script.specs.declared.setting_words.SystemWord.{SystemWord}
 use Rattle.craig_script.specs.declared.setting_words.SystemWord.TheVariants as word
 use Rattle.craig_script.specs.declared.refusal.Refusal.TheVariants.{Syntax, Overlong, Range, Variable, LateParts, LimitRange, CutRange}
@@ -36,13 +36,13 @@ use Rattle.craig_top.specs.RefutationReply.{IsRefutationReply, SystemLiterals}
 use Rattle.craig_top.specs.WrittenSystems.{WrittenSystem, label_of_mark}
 use Rattle.craig_top.specs.Reply.{Reply, assumptions_of}
 
--- the bytes read back as the circuit, whose gates are conjunctions, whose outputs are its literals, and each of whose inputs is in the cone of an output
-abbrev pub IsTextOf : List ℕ → Circuit → Type 0
-IsTextOf bytes c = (read_aag bytes ≡ Some c) × GatesAreConjunctions c × OutputsAreLiterals c × InputsAreInCones c
+-- the bytes read back in the format as the circuit, whose gates are conjunctions, whose outputs are its literals, and each of whose inputs is in the cone of an output
+abbrev pub IsTextOf : CircuitFormat → List ℕ → Circuit → Type 0
+IsTextOf format bytes c = (format.read bytes ≡ Some c) × GatesAreConjunctions c × OutputsAreLiterals c × InputsAreInCones c
 
--- the bytes are the text of a layout whose inputs rise, whose gates have the greater operand first, below themselves, and stand once, and where nothing is unused
-abbrev pub IsStrictText : List ℕ → Type 0
-IsStrictText bytes = (layout : Layout) × (bytes ≡ aag_text layout) × NumbersRise layout.inputs × OperandsAreOrdered (circuit_of layout) × GatesStandOnce (circuit_of layout) × AllAreUsed (circuit_of layout)
+-- the bytes are the text in the format of a layout whose inputs rise, whose gates have the greater operand first, below themselves, and stand once, and where nothing is unused
+abbrev pub IsStrictText : CircuitFormat → List ℕ → Type 0
+IsStrictText format bytes = (layout : Layout) × (bytes ≡ format.write layout) × NumbersRise layout.inputs × OperandsAreOrdered (circuit_of layout) × GatesStandOnce (circuit_of layout) × AllAreUsed (circuit_of layout)
 
 -- there are as many outputs, and each has the name and the literal at its place
 abbrev pub HaveOutputs : List (OutName × ℕ) → List Output → Type 0
@@ -62,10 +62,10 @@ abbrev pub PrintsModel : List PartClause → List (ℕ × ℤ) → List ℕ → 
 PrintsModel accepted pairs text = (literals : List Literal) × (text ≡ codes "s SATISFIABLE\nv " ++ literals_text literals)
     × IsModelReply (map (λ (a : PartClause). a.clause) accepted ++ map (λ (pair : ℕ × ℤ). script_literal pair.1 ∷ []) pairs) literals
 
--- two parts, the system, no mark, all cuts, the limit and no clause
-abbrev pub StartsWith : SystemWord → Option ℕ → State → Type 0
-StartsWith system limit state =
-    (state.settings.parts ≡ 2) × (state.settings.system ≡ system) × (state.settings.marks ≡ []) × (state.settings.cuts ≡ 0 ∷ 1 ∷ 2 ∷ []) × (state.settings.limit ≡ limit) × (state.accepted ≡ [])
+-- two parts, the system, no mark, all cuts, the format, the limit and no clause
+abbrev pub StartsWith : SystemWord → FormatWord → Option ℕ → State → Type 0
+StartsWith system format limit state =
+    (state.settings.parts ≡ 2) × (state.settings.system ≡ system) × (state.settings.marks ≡ []) × (state.settings.cuts ≡ 0 ∷ 1 ∷ 2 ∷ []) × (state.settings.format ≡ format) × (state.settings.limit ≡ limit) × (state.accepted ≡ [])
 
 -- the clause of these numbers is accepted last, with its part, and nothing else changes
 abbrev pub HasAccepted : State → ℕ → List ℤ → State → Type 0
@@ -94,9 +94,9 @@ abbrev pub RefusalsAreNumbered : Type 0
 RefusalsAreNumbered =
     (refusal_text Syntax ≡ codes "e 1\n") × (refusal_text Overlong ≡ codes "e 2\n") × (refusal_text Range ≡ codes "e 3\n") × (refusal_text Variable ≡ codes "e 4\n") × (refusal_text LateParts ≡ codes "e 5\n") × (refusal_text LimitRange ≡ codes "e 6\n") × (refusal_text CutRange ≡ codes "e 7\n")
 
--- what is said holds of each text of a circuit in AIGER's ASCII form: of the outputs, the bytes and the circuit
-abbrev pub EachText : (List (OutName × ℕ) → List ℕ → Circuit → Type 0) → Type 0
-EachText Says = (outputs : List (OutName × ℕ)) (bytes : List ℕ) (c : Circuit) → IsCircuitText ascii_format outputs bytes c → Says outputs bytes c
+-- what is said holds of each text of a circuit: of the format, the outputs, the bytes and the circuit
+abbrev pub EachText : (CircuitFormat → List (OutName × ℕ) → List ℕ → Circuit → Type 0) → Type 0
+EachText Says = (format : CircuitFormat) (outputs : List (OutName × ℕ)) (bytes : List ℕ) (c : Circuit) → IsCircuitText format outputs bytes c → Says format outputs bytes c
 
 -- there is one system, which has no family, and gives these labels
 abbrev pub IsAlone : List WrittenSystem → (ℕ → Label) → Type 0
@@ -145,7 +145,7 @@ EachDrawnSystem Says = EachRefutingReply (λ state assumptions text reply. (y : 
 -- there are so many parts and all cuts are chosen, and nothing else changes
 abbrev pub IsDivided : State → ℕ → State → Type 0
 IsDivided before n after =
-    (after.settings.parts ≡ n) × (after.settings.cuts ≡ range_with_len 0 (n + 1)) × (after.settings.system ≡ before.settings.system) × (after.settings.marks ≡ before.settings.marks) × (after.settings.limit ≡ before.settings.limit) × (after.accepted ≡ before.accepted)
+    (after.settings.parts ≡ n) × (after.settings.cuts ≡ range_with_len 0 (n + 1)) × (after.settings.system ≡ before.settings.system) × (after.settings.marks ≡ before.settings.marks) × (after.settings.format ≡ before.settings.format) × (after.settings.limit ≡ before.settings.limit) × (after.accepted ≡ before.accepted)
 
 -- the state with another system
 abbrev pub with_system : State → SystemWord → State
@@ -158,6 +158,10 @@ with_mark state name label = record state { settings = record state.settings { m
 -- the state with another limit
 abbrev pub with_limit : State → Option ℕ → State
 with_limit state limit = record state { settings = record state.settings { limit = limit } }
+
+-- the state with another format
+abbrev pub with_format : State → FormatWord → State
+with_format state format = record state { settings = record state.settings { format = format } }
 
 -- the cuts are all or those of these numbers, and nothing else changes
 abbrev pub HasCuts : State → CutWord → State → Type 0

@@ -2,6 +2,7 @@
 use Rattle.std.specs.Prelude.{◌≡◌, ◌≢◌, Ok, ℕ, ◌≤◌, Bool, List, length, map, Option, Some, None}
 use Rattle.std.specs.Option.{option_map}
 use Rattle.craig_spec.specs.Cut.{AreChosenCuts, all_cuts}
+use Rattle.craig_spec.specs.DimacsText.{greatest_of_clauses}
 use Rattle.craig_spec.specs.PartialInterpolant.{Label}
 use Rattle.craig_spec.specs.Literal.{Clause}
 use Rattle.craig_base.specs.declared.script_part.Part.{Part}
@@ -14,6 +15,7 @@ use Rattle.craig_top.specs.declared.choices.Choices.{Choices}
 use Rattle.craig_top.specs.declared.stored.Stored.{Stored}
 use Rattle.craig_top.specs.GivenState.{ScriptSettings, State, any_clause}
 use Rattle.craig_top.specs.LastRefutation.{SessionView}
+use Rattle.craig_top.specs.Named.{bare_clauses}
 use Rattle.craig_top.specs.Naming.{written}
 use Rattle.craig_top.specs.Sides.{AreSidesOf, parted}
 use Rattle.craig_top.specs.Values.{AreOver}
@@ -33,7 +35,7 @@ labels marks = map (λ (m : ℕ × Mark). (m.0, label_of m.1)) marks
 
 -- the settings of so many parts and these choices
 abbrev pub settings_of : ℕ → Choices → ScriptSettings
-settings_of parts c = record { parts = parts; system = c.system; marks = labels c.marks.items; cuts = written_cuts parts (option_map (λ cuts. cuts.items) c.cuts); limit = c.limit }
+settings_of parts c = record { parts = parts; system = c.system; marks = labels c.marks.items; cuts = written_cuts parts (option_map (λ cuts. cuts.items) c.cuts); format = c.format; limit = c.limit }
 
 -- the given state of what is stored
 abbrev pub given_state : Stored → State
@@ -68,6 +70,8 @@ pub record IsSameButForRanges (old new : Stored) : Type 0 where
   pub parts : new.sides.parts ≡ old.sides.parts
   -- what the commands have set
   pub choices : new.choices ≡ old.choices
+  -- the greatest variable
+  pub greatest : new.greatest ≡ old.greatest
   -- and the solver
   pub solver : new.solver ≡ old.solver
 
@@ -79,3 +83,5 @@ pub record IsKept (s : Stored) : Type 0 where
   pub chosen : AreChosenCuts s.sides.parts (settings_of s.sides.parts s.choices).cuts
   -- a limit isn't 0
   pub limited : s.choices.limit ≢ Some 0
+  -- the greatest variable of the accepted clauses is known
+  pub greatest : s.greatest ≡ greatest_of_clauses (bare_clauses (given_state s).accepted)

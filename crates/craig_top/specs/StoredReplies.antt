@@ -8,6 +8,7 @@ use Rattle.craig_script.specs.declared.line.Line.{Line}
 use Rattle.craig_script.specs.declared.command.Command.{Command}
 use Rattle.craig_search.specs.Verdict.{Assumptions, units}
 use Rattle.craig_top.specs.declared.stored.Stored.{Stored}
+use Rattle.craig_top.specs.Formats.{greatest_named}
 use Rattle.craig_top.specs.GivenState.{reading}
 use Rattle.craig_top.specs.LastRefutation.{IsRefutationBy, IsSolveReplyBy, IsByLastRoot, ReadingIsByLastRoot}
 use Rattle.craig_top.specs.Material.{MaterialView, state_of}
@@ -28,14 +29,14 @@ IsCommandReplyStored before later command = IsByLastRoot (seen later false) (giv
 abbrev pub IsSolveReplyStored : (before later : Stored) → List (ℕ × ℤ) → List ℕ → Type 0
 IsSolveReplyStored before later pairs = IsSolveReplyBy later.names later.solver.tracer.told.steps later.solver.root (given_state before) pairs
 
--- the reply refutes what was stored under any assumptions of which these failed, by the root
-abbrev pub IsRefutedStored : (before : Stored) → Assumptions → (root : ℕ) → List ℕ → Type 0
-IsRefutedStored before failed root text =
-    (assumptions : List PartLiteral) → NamesFailed assumptions (named_assumptions before.names failed) → IsRefutationBy before.names before.solver.tracer.told.steps (Some root) (given_state before) assumptions text
+-- the reply refutes what was stored under any assumptions of which these failed, where the greatest variable that is named is the top, by the root
+abbrev pub IsRefutedStored : (before : Stored) → Assumptions → (root top : ℕ) → List ℕ → Type 0
+IsRefutedStored before failed root top text =
+    (assumptions : List PartLiteral) → NamesFailed assumptions (named_assumptions before.names failed) → greatest_named (given_state before) assumptions ≡ top → IsRefutationBy before.names before.solver.tracer.told.steps (Some root) (given_state before) assumptions text
 
--- the reply refutes the clauses under any assumptions of which these failed, by the root
+-- the reply refutes the clauses under any assumptions of which these failed, where the greatest variable that is named is the top, by the root
 abbrev pub IsRootReply : MaterialView → (root : ℕ) → List ℕ → Type 0
-IsRootReply m root text = (assumptions : List PartLiteral) → NamesFailed assumptions (named_assumptions m.names m.failed) → IsRefutationBy m.names m.told.steps (Some root) (state_of m) assumptions text
+IsRootReply m root text = (assumptions : List PartLiteral) → NamesFailed assumptions (named_assumptions m.names m.failed) → greatest_named (state_of m) assumptions ≡ m.top → IsRefutationBy m.names m.told.steps (Some root) (state_of m) assumptions text
 
 -- the reply with a model of the clauses and the assumptions came behind what was there
 abbrev pub AppendsModel : List ℕ → List (Part × Clause) → Assumptions → (old new : List ℕ) → Type 0

@@ -8,9 +8,10 @@ ghost use Rattle.craig_top.specs.GivenState.{label_named, unmarked};
 ghost use Rattle.std.specs.Option.{option_map};
 ghost use Rattle.craig_top.specs.Stored.{settings_of, written_cuts};
 
+use crate::settings::Settings;
 use craig_itp::cuts_up_to;
 use craig_label::Mark;
-use craig_script::{MarkWord, SystemWord};
+use craig_script::{FormatWord, MarkWord, SystemWord};
 use std::alloc::{AllocError, Global};
 
 /// The settings of a script, but for the number of parts.
@@ -22,20 +23,23 @@ pub struct Choices {
     pub marks: Vec<(u32, Mark)>,
     /// The cuts whose interpolants are written, where not all are.
     pub cuts: Option<Vec<u16>>,
+    /// The format in which circuits are written.
+    pub format: FormatWord,
     /// How many conflicts a solve may meet, where there is a limit.
     pub limit: Option<u64>,
 }
 
 impl Choices {
-    /// Pudlák's system, no mark, all cuts and no limit. It takes no memory.
-    pub fn new(alloc: Global) -> Choices
-        ensures { (parts : ℕ) → settings_of parts result ≡ unmarked parts SystemWord.Pudlak }
+    /// The settings of the start, no mark and all cuts. It takes no memory.
+    pub fn new(alloc: Global, settings: Settings) -> Choices
+        ensures { (parts : ℕ) → settings_of parts result ≡ unmarked parts settings }
     {
         Choices {
-            system: SystemWord::Pudlak,
+            system: settings.system,
             marks: Vec::new(alloc),
             cuts: None,
-            limit: None,
+            format: settings.format,
+            limit: settings.limit,
         }
     }
 }

@@ -5,12 +5,13 @@
 //! was put is made of allowed replies, one for each line, and each way in which a run can end says which lines these
 //! are. A `solve` is answered by the incremental solver of `craig_solver`: with a model, or with failed assumptions and
 //! the interpolants of the chosen cuts by the systems that are set, which `craig_itp` draws from the kept refutation and
-//! `craig_aiger` writes as one circuit.
+//! `craig_aiger` or `craig_cnf` writes as one circuit.
 #![tactic(auto)]
 
 mod assumptions;
 mod choices;
 mod clause;
+mod greatest;
 pub mod laws;
 mod lemmas;
 mod material;

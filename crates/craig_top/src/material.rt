@@ -23,4 +23,6 @@ pub struct Material<'a> {
     pub sides: &'a Sides,
     /// The refutations that are kept.
     pub store: &'a ChainStore,
+    /// The greatest script variable that the clauses and the assumptions of the solve name, or 0.
+    pub top: u32,
 }

@@ -3,7 +3,7 @@
 
 ghost use Rattle.std.specs.Prelude.{◌≡◌, ◌<◌, ◌≤◌, ◌++◌, ℕ, List, [], Some, length, map, All, IfOk, OnOk};
 ghost use Rattle.craig_spec.specs.Chain.{IsUnforgotten, clause_told};
-ghost use Rattle.craig_spec.specs.Circuit.{IsStrict};
+ghost use Rattle.craig_spec.specs.Circuit.{IsCircuit, IsStrict};
 ghost use Rattle.craig_spec.specs.Cut.{AreChosenCuts};
 ghost use Rattle.craig_spec.specs.Needed.{IsNeededPart};
 ghost use Rattle.craig_aig.specs.Growth.{ArenaGrows};
@@ -59,7 +59,13 @@ pub fn append_refutation(
     let circuit = cut_circuit(material, root)?;
     let failed = named_literals(material.alloc, material.names, material.failed)?;
     append_unsatisfiable(out, &failed)?;
-    append_interpolants(out, &circuit)
+    append_interpolants(
+        material.alloc,
+        material.choices.format,
+        material.top,
+        &circuit,
+        out,
+    )
 }
 
 /// The circuit of the interpolants of the written cuts by the written systems, an output for each.
@@ -70,6 +76,7 @@ fn cut_circuit(material: &Material, root: ClauseId) -> Result<Layout, AllocError
     requires named { (cut x : ℕ) → side_at material.now.sides.now cut x ≡ Side.Shared → x < length material.now.names.now }
     ensures cuts { IfOk result (IsWrittenLayout (view_of material.now) root.0) }
     ensures strict { IfOk result (λ l. IsStrict (circuit_of l)) }
+    ensures circuit { IfOk result (λ l. IsCircuit (circuit_of l)) }
 {
     craig_aig::laws::nodes_by_operands();
     let mut aig = Aig::new(material.alloc);

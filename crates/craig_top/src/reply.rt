@@ -1,17 +1,19 @@
 //! The texts of replies, appended to the bytes that are put for a line.
 
-ghost use Rattle.std.specs.Prelude.{◌≡◌, ◌≤◌, ◌+◌, ◌++◌, codes, decimal, vec_len, vec_capacity, OnOk};
+ghost use Rattle.std.specs.Prelude.{◌≡◌, ◌≤◌, ◌+◌, ◌++◌, All, codes, decimal, vec_len, vec_capacity, OnOk};
 ghost use Rattle.craig_aiger.specs.AsciiText.{aag_text};
-ghost use Rattle.craig_aiger.specs.RoundTrip.{ReadsAs};
+ghost use Rattle.craig_cnf.specs.LayoutClauses.{layout_text};
 ghost use Rattle.craig_top.specs.Appended.{AppendsOnly};
 ghost use Rattle.craig_top.specs.Blocks.{lined_bytes};
+ghost use Rattle.craig_top.specs.Formats.{ReadsBack, ascii_format, clause_format, format_of};
 ghost use Rattle.craig_top.specs.ReplyTexts.{literal_text, literals_text, failed_text, lemma_text, unknown_line, satisfiable_text, ok_text, refusal_text};
 
 use craig_aiger::{Form, Layout};
 use craig_base::Lit;
-use craig_script::Refusal;
+use craig_cnf::write_tseitin;
+use craig_script::{FormatWord, Refusal};
 use itoa::Buffer;
-use std::alloc::AllocError;
+use std::alloc::{AllocError, Global};
 
 /// How many bytes the reply `ok` has, with its newline.
 pub const OK_SIZE: usize = 3;
@@ -66,14 +68,52 @@ pub fn append_lemma(out: &mut Vec<u8>, literals: &[Lit]) -> Result<(), AllocErro
     append_literals(out, literals)
 }
 
-/// The block of the interpolants: the text of their circuit, behind the letter and the number of its bytes.
-pub fn append_interpolants(out: &mut Vec<u8>, circuit: &Layout) -> Result<(), AllocError>
+/// The block of the interpolants: the text of their circuit in the format, behind the letter and the number of its bytes.
+/// A text of clauses has its fresh variables above `top`, which is at least each script variable of the circuit.
+pub fn append_interpolants(
+    alloc: Global,
+    format: FormatWord,
+    top: u32,
+    circuit: &Layout,
+    out: &mut Vec<u8>,
+) -> Result<(), AllocError>
+    requires { All (λ x. x ≤ top) circuit.now.inputs }
+    ensures text { OnOk result (out.new.items ≡ out.old.items ++ lined_bytes (codes "a") ((format_of format top).write circuit.now)) }
+    ensures reads_back { OnOk result (ReadsBack (format_of format top) circuit.now) }
+    ensures appends { AppendsOnly out.old.items out.new.items }
+{
+    match format {
+        FormatWord::Aag => append_aag(circuit, out),
+        FormatWord::Cnf => append_cnf(alloc, top, circuit, out),
+    }
+}
+
+/// The block in AIGER's ASCII form.
+fn append_aag(circuit: &Layout, out: &mut Vec<u8>) -> Result<(), AllocError>
     ensures text { OnOk result (out.new.items ≡ out.old.items ++ lined_bytes (codes "a") (aag_text circuit.now)) }
-    ensures reads_back { OnOk result (ReadsAs circuit.now (aag_text circuit.now)) }
+    ensures reads_back { OnOk result (ReadsBack ascii_format circuit.now) }
     ensures appends { AppendsOnly out.old.items out.new.items }
 {
     append_size(out, circuit.size_of(Form::Aag))?;
     circuit.write_aag(out)
+}
+
+/// The block as clauses. Its text is written first, since the number of its bytes stands in front.
+fn append_cnf(
+    alloc: Global,
+    top: u32,
+    circuit: &Layout,
+    out: &mut Vec<u8>,
+) -> Result<(), AllocError>
+    requires { All (λ x. x ≤ top) circuit.now.inputs }
+    ensures text { OnOk result (out.new.items ≡ out.old.items ++ lined_bytes (codes "a") (layout_text top circuit.now)) }
+    ensures reads_back { OnOk result (ReadsBack (clause_format top) circuit.now) }
+    ensures appends { AppendsOnly out.old.items out.new.items }
+{
+    let mut text = Vec::new(alloc);
+    write_tseitin(circuit, top, &mut text)?;
+    append_size(out, text.len() as u64)?;
+    out.extend_from_slice(&text)
 }
 
 /// The line with the number of bytes that come behind it.

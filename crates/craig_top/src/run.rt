@@ -6,7 +6,6 @@
 
 ghost use Rattle.std.specs.Prelude.{◌≡◌, ◌≢◌, ℕ, ◌<◌, ◌≤◌, ◌+◌, List, [], false, length, vec_len, Option, Some, Err, OnOk, IfOk, IfErr, OnErr};
 ghost use Rattle.craig_script.specs.Lines.{fed, ended};
-ghost use Rattle.craig_top.specs.StartingSettings.{starting_settings};
 ghost use Rattle.craig_top.specs.GivenState.{start, after};
 ghost use Rattle.craig_top.specs.Emptied.{emptied};
 ghost use Rattle.craig_top.specs.Faults.{CountsFaults};
@@ -188,7 +187,7 @@ impl Run {
     }
 }
 
-/// Answers the script that the source has, line by line, to the sink. `bound` counts bytes.
+/// Answers the script that the source has, line by line, to the sink. `bound` counts bytes. A limit is at least 1.
 ///
 /// Each read asks for at most 65536 bytes, and for no more than are left to the bound. It ends with `Done` at the end
 /// of the input, with `ReadFault` or `WriteFault` at the first read or write that fails, with `TooLong` as soon as
@@ -202,7 +201,7 @@ pub fn run_script<R: Source, W: Sink>(
     sink: &mut W,
 ) -> Status
     requires bound { 0 < bound }
-    requires settings { settings ≡ starting_settings }
+    requires settings { settings.limit ≢ Some 0 }
     ensures promise { Promise settings bound result (R.remaining source.old) (R.remaining source.new) (W.contents sink.old) (W.contents sink.new) }
     ensures no_usage { result ≢ Status.Usage }
     ensures read_fault { CountsFaults (result ≡ Status.ReadFault) (R.faults source.old) (R.faults source.new) }

@@ -1,6 +1,6 @@
 //! A session: one reply for each line, and the state that the lines so far have left.
 
-ghost use Rattle.std.specs.Prelude.{◌≡◌, ℕ, ◌++◌, true, false, List, OnOk, OnErr, IsErr};
+ghost use Rattle.std.specs.Prelude.{◌≡◌, ◌≢◌, ℕ, ◌++◌, true, false, List, OnOk, OnErr, IsErr, Some};
 ghost use Rattle.craig_top.specs.Appended.{AppendsOnly, AppendsText};
 
 use crate::settings::Settings;
@@ -37,19 +37,17 @@ impl Model for Session {
 }
 
 impl Session {
-    ghost use Rattle.craig_top.specs.StartingSettings.{starting_settings};
     ghost use Rattle.craig_top.specs.GivenState.{start, next};
     ghost use Rattle.craig_top.specs.LastRefutation.{LineIsByLastRoot, view_before_lines};
     ghost use Rattle.craig_top.specs.Reply.{Reply};
 
-    /// The session before the first line. It takes no memory.
+    /// The session before the first line. A limit is at least 1. It takes no memory.
     pub fn new(alloc: Global, settings: Settings) -> Session
-        requires { settings ≡ starting_settings }
+        requires { settings.limit ≢ Some 0 }
         ensures { result ≡ view_before_lines (start settings) }
     {
-        let _ = settings;
         Session {
-            stored: Stored::new(alloc, PARTS),
+            stored: Stored::new(alloc, PARTS, settings),
             dead: false,
         }
     }

@@ -1,13 +1,15 @@
 //! What a session stores, and the reply to a line from it.
 
-ghost use Rattle.std.specs.Prelude.{◌≡◌, ◌≤◌, ℕ, [], ◌++◌, false, List, Some, None, IsTrue, All, length, map, nat_le, Ok, OnOk, OnErr, IfOk};
+ghost use Rattle.std.specs.Prelude.{◌≡◌, ◌≢◌, ◌≤◌, ℕ, [], ◌++◌, false, List, Some, None, IsTrue, All, length, map, nat_le, Ok, OnOk, OnErr, IfOk};
 ghost use Rattle.std.specs.List.{list_all};
 ghost use Rattle.std.specs.Int.RustNames.{unsigned_abs};
 ghost use Rattle.craig_script.specs.Reading.{IsParsedAs, is_within, part_limit, variable_limit};
 ghost use Rattle.craig_script.specs.declared.command.Command.{Command};
 ghost use Rattle.craig_top.specs.Appended.{AppendsOnly, AppendsText};
+ghost use Rattle.craig_top.specs.Formats.{greatest_named};
 ghost use Rattle.craig_top.specs.GivenState.{reading, next, obeyed, unmarked};
 ghost use Rattle.craig_top.specs.LastRefutation.{view_before_lines};
+ghost use Rattle.craig_top.specs.Naming.{named_assumptions};
 ghost use Rattle.craig_top.specs.Reply.{Reply, RepliesTo};
 ghost use Rattle.craig_top.specs.Stored.{IsAdmitted, IsKept, IsSameButForRanges, given_state, seen};
 ghost use Rattle.craig_spec.specs.Chain.{IsUnforgotten};
@@ -20,16 +22,18 @@ ghost use Rattle.craig_top.specs.AsRead.{IsAsRead};
 use crate::assumptions::{assumptions_at, dense_assumptions};
 use crate::choices::{Choices, chosen_cuts, mark_of};
 use crate::clause::dense_clause;
+use crate::greatest::{greatest_assumed, greatest_variable};
 use crate::lemmas::append_lemmas;
 use crate::material::Material;
 use crate::refutation::append_refutation;
 use crate::reply::{OK_SIZE, append_ok, append_refusal};
+use crate::settings::Settings;
 use crate::sides::{note_assumptions, note_clause, put_back};
 use crate::verdict::append_values;
 use craig_base::{ClauseId, Lit, Names, Part};
 use craig_label::Sides;
 use craig_proof::ChainStore;
-use craig_script::{Command, CutWord, Line, LineFault, SystemWord, admit, parse};
+use craig_script::{Command, CutWord, Line, LineFault, admit, parse};
 use craig_solver::{Answer, Solver};
 use std::alloc::{AllocError, Global};
 
@@ -46,21 +50,25 @@ pub struct Stored {
     pub choices: Choices,
     /// The accepted clauses over the dense variables, and the refutations that are kept.
     pub solver: Solver<ChainStore>,
+    /// The greatest script variable of the accepted clauses, or 0.
+    pub greatest: u32,
 }
 
 impl Stored {
-    /// No clause, and so many parts. It takes no memory.
-    pub fn new(alloc: Global, parts: u16) -> Stored
-        requires { 1 ≤ parts }
+    /// No clause, so many parts and the settings of the start. It takes no memory.
+    pub fn new(alloc: Global, parts: u16, settings: Settings) -> Stored
+        requires parts { 1 ≤ parts }
+        requires limit { settings.limit ≢ Some 0 }
         ensures kept { IsKept result }
-        ensures seen { seen result false ≡ view_before_lines (record { settings = unmarked parts SystemWord.Pudlak; accepted = [] }) }
+        ensures seen { seen result false ≡ view_before_lines (record { settings = unmarked parts settings; accepted = [] }) }
     {
         Stored {
             alloc,
             names: Names::new(alloc),
             sides: Sides::new(alloc, parts),
-            choices: Choices::new(alloc),
+            choices: Choices::new(alloc, settings),
             solver: Solver::new(alloc, ChainStore::new(alloc)),
+            greatest: 0,
         }
     }
 
@@ -151,6 +159,10 @@ impl Stored {
                 self.choices.limit = limit;
                 Ok(())
             }
+            Command::Format(format) => {
+                self.choices.format = format;
+                Ok(())
+            }
             Command::Cuts(CutWord::All) => {
                 self.choices.cuts = None;
                 Ok(())
@@ -193,6 +205,7 @@ impl Stored {
         let dense = clause.as_slice();
         note_clause(&mut self.sides, part, dense)?;
         self.solver.add(part, dense)?;
+        self.greatest = self.greatest.max(greatest_variable(literals));
         Ok(())
     }
 
@@ -222,17 +235,20 @@ impl Stored {
             ),
             Answer::Failed { root, places } => {
                 let failed = assumptions_at(self.alloc, &assumptions, places)?;
-                self.refute(&failed, *root, out)
+                let top = self.greatest.max(greatest_assumed(pairs));
+                self.refute(&failed, *root, top, out)
             }
             Answer::Limit(lemmas) => append_lemmas(self.alloc, &self.names, lemmas, out),
         }
     }
 
-    /// Appends the reply that refutes the accepted clauses and the failed assumptions by the root of the last answer.
+    /// Appends the reply that refutes the accepted clauses and the failed assumptions by the root of the last answer. No
+    /// variable of these is above the top.
     fn refute(
         &mut self,
         failed: &[(Part, Lit)],
         root: ClauseId,
+        top: u32,
         out: &mut Vec<u8>,
     ) -> Result<(), AllocError>
         requires kept { IsKept self.old }
@@ -242,9 +258,10 @@ impl Stored {
         requires root { IsUnforgotten self.old.solver.tracer.told.steps root.0 }
         requires empty { IsEmptyAt self.old.solver.tracer.told.steps root.0 }
         requires rests { RestsOn (with_assumed self.old.solver.accepted failed.now) self.old.solver.tracer.told root.0 }
+        requires top { greatest_named (given_state self.old) (named_assumptions self.old.names failed.now) ≤ top }
         ensures kept { OnOk result (IsKept self.new) }
         ensures same { IsSameButForRanges self.old self.new }
-        ensures reply { OnOk result (AppendsText out.old.items out.new.items (IsRefutedStored self.old failed.now root.0)) }
+        ensures reply { OnOk result (AppendsText out.old.items out.new.items (IsRefutedStored self.old failed.now root.0 top)) }
         ensures appends { AppendsOnly out.old.items out.new.items }
     {
         craig_proof::laws::steps_are_found();
@@ -259,6 +276,7 @@ impl Stored {
             failed,
             sides: &self.sides,
             store: self.solver.tracer(),
+            top,
         };
         append_refutation(&material, root, out)?;
         put_back(&mut self.sides, before)?;

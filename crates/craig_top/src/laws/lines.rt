@@ -9,7 +9,7 @@ ghost use Rattle.craig_script.specs.declared.line.Line.TheVariants.{Overlong, Te
 ghost use Rattle.craig_script.specs.declared.refusal.Refusal.TheVariants as refusal;
 ghost use Rattle.craig_script.specs.Lines.{last_part, line_of, script_lines, whole_lines};
 ghost use Rattle.craig_script.specs.Words.{words};
-ghost use Rattle.craig_top.specs.CommandLines.{AreInRange, ArePairsInRange, AreRisingCuts, IsLimitInRange, EachAddLine, EachCutsLine, EachLimitLine, EachMarkLine, EachPartsLine, EachSolveLine, EachSystemLine, add_words, all_cuts_words, cuts_words, limit_words, mark_words, parts_words, solve_words, system_words};
+ghost use Rattle.craig_top.specs.CommandLines.{AreInRange, ArePairsInRange, AreRisingCuts, IsLimitInRange, EachAddLine, EachCutsLine, EachFormatLine, EachLimitLine, EachMarkLine, EachPartsLine, EachSolveLine, EachSystemLine, add_words, all_cuts_words, cuts_words, format_words, limit_words, mark_words, parts_words, solve_words, system_words};
 ghost use Rattle.craig_top.specs.GivenState.{State, reading};
 
 /// The bytes of a script are its lines, each with a newline behind it, and what comes after the last newline, which is
@@ -36,6 +36,7 @@ pub fn words_of_commands()
     ensures all_cuts { (state : State) (bytes : List ℕ) → reading state (Text bytes) ≡ Ok (Cuts CutWord.All) → words bytes ≡ all_cuts_words }
     ensures cuts { EachCutsLine (λ state bytes cuts. (words bytes ≡ cuts_words cuts) × AreRisingCuts state.settings.parts cuts) }
     ensures limit { EachLimitLine (λ bytes limit. (words bytes ≡ limit_words limit) × IsLimitInRange limit) }
+    ensures format { EachFormatLine (λ bytes f. words bytes ≡ format_words f) }
     ensures solve { EachSolveLine (λ state bytes pairs. (words bytes ≡ solve_words pairs) × ArePairsInRange state.settings.parts pairs) }
     ensures short { (state : State) (bytes : List ℕ) (c : Command) → reading state (Text bytes) ≡ Ok c → length bytes ≤ 1048576 }
     ensures overlong { (state : State) → reading state Overlong ≡ Err refusal.Overlong }

@@ -1,6 +1,9 @@
 //! What replies say, what their bytes are, and what a line does to the given state.
 
-ghost use Rattle.std.specs.Prelude.{◌≡◌, Option, Some, IsTrue, Contains, length, ℕ, [], ◌++◌, List, Ok, Err, ℤ, true, codes, decimal, map, pos};
+ghost use Rattle.std.specs.Prelude.{◌≡◌, ◌≢◌, ◌≤◌, Option, Some, IsTrue, Contains, length, ℕ, [], ◌++◌, List, Ok, Err, ℤ, true, codes, decimal, map, pos};
+ghost use Rattle.craig_spec.specs.AigerReading.{read_aag};
+ghost use Rattle.craig_spec.specs.CircuitCnf.{read_cnf};
+ghost use Rattle.craig_spec.specs.Cut.{PartLiteral, with_units};
 ghost use Rattle.craig_spec.specs.DrawnFromOneRefutation.{IsRefutationOf};
 ghost use Rattle.craig_spec.specs.PartialInterpolant.{Label, A, AB, B};
 ghost use Rattle.std.specs.List.Sorted.{IsStrictlyIncreasing};
@@ -10,26 +13,45 @@ ghost use Rattle.craig_spec.specs.Occurs.{Occurs, occurs_in_clause};
 ghost use Rattle.craig_spec.specs.Truth.{Implies, clause_value};
 ghost use Rattle.craig_spec.specs.Strength.{ImplyInTurn};
 ghost use Rattle.craig_script.specs.declared.line.Line.{Line};
-ghost use Rattle.craig_script.specs.declared.command.Command.TheVariants.{Nothing, Parts, Add, System, Mark, Cuts, Limit, Solve};
+ghost use Rattle.craig_script.specs.declared.command.Command.TheVariants.{Nothing, Parts, Add, System, Mark, Cuts, Limit, Format, Solve};
 ghost use Rattle.craig_script.specs.declared.cut_word.CutWord.{CutWord};
+ghost use Rattle.craig_script.specs.declared.setting_words.FormatWord.{FormatWord};
 ghost use Rattle.craig_script.specs.declared.setting_words.MarkWord.{MarkWord};
 ghost use Rattle.craig_script.specs.declared.refusal.Refusal.{Refusal};
 ghost use Rattle.craig_script.specs.declared.setting_words.SystemWord.{SystemWord};
 ghost use Rattle.craig_top.specs.declared.settings.Settings.{Settings};
+ghost use Rattle.craig_aiger.specs.AsciiText.{aag_text};
+ghost use Rattle.craig_cnf.specs.LayoutClauses.{layout_text};
 ghost use Rattle.craig_top.specs.DrawnSteps.{AreByTheRules};
+ghost use Rattle.craig_top.specs.Formats.{format_in, format_of, greatest_named};
 ghost use Rattle.craig_top.specs.GivenState.{State, next, reading, script_literal, start};
+ghost use Rattle.craig_top.specs.Named.{bare_clauses};
 ghost use Rattle.craig_top.specs.RefutationReply.{AreNoHigher};
 ghost use Rattle.craig_top.specs.LemmaReply.{EachLemma, EachUnknownReply, IsLemmaText};
-ghost use Rattle.craig_top.specs.ReplyContents.{AreLiteralsOf, AreNamedBy, AreThree, AreThreeByStrength, EachAddition, EachDrawnSystem, EachMark, EachReading, EachRefutingReply, EachReply, EachReplyOfAll, EachReplySystem, EachText, EachTwoSystems, HasAccepted, HasCuts, HaveOutputs, IsAlone, IsDivided, IsLastMark, IsPrintedFirst, IsStrictText, IsTextOf, MayAnswer, PrintsRefutation, RefusalsAreNumbered, StartsWith, with_limit, with_mark, with_system};
+ghost use Rattle.craig_top.specs.ReplyContents.{AreLiteralsOf, AreNamedBy, AreThree, AreThreeByStrength, EachAddition, EachDrawnSystem, EachMark, EachReading, EachRefutingReply, EachReply, EachReplyOfAll, EachReplySystem, EachText, EachTwoSystems, HasAccepted, HasCuts, HaveOutputs, IsAlone, IsDivided, IsLastMark, IsPrintedFirst, IsStrictText, IsTextOf, MayAnswer, PrintsRefutation, RefusalsAreNumbered, StartsWith, with_format, with_limit, with_mark, with_system};
 ghost use Rattle.craig_top.specs.ReplyTexts.{literals_text, refusal_text};
 ghost use Rattle.craig_top.specs.TrueParts.{AreFirstOnes, AreImplied, AreOfCuts, AreRefuted, AreTrueWith, FirstPlacesRise, HaveWith, ImplyLaterOnes, ReachSharedVariables};
 ghost use Rattle.craig_top.specs.WrittenSystems.{label_of_mark, systems_of, written_systems};
 
-/// The text of a circuit reads back as it, and is laid out strictly; it has the outputs.
+/// The text of a circuit in a format reads back as it, and is laid out strictly; it has the outputs.
 pub fn texts_of_circuits()
-    ensures read { EachText (λ outputs bytes c. IsTextOf bytes c) }
-    ensures strict { EachText (λ outputs bytes c. IsStrictText bytes) }
-    ensures outputs { EachText (λ outputs bytes c. HaveOutputs outputs c.outputs) }
+    ensures read { EachText (λ format outputs bytes c. IsTextOf format bytes c) }
+    ensures strict { EachText (λ format outputs bytes c. IsStrictText format bytes) }
+    ensures outputs { EachText (λ format outputs bytes c. HaveOutputs outputs c.outputs) }
+{}
+
+/// How the format of a word is written and read: as AIGER in its ASCII form, or as clauses whose fresh variables come
+/// after a number.
+pub fn formats_of_words()
+    ensures aag { (top : ℕ) → ((format_of FormatWord.Aag top).write ≡ aag_text) × ((format_of FormatWord.Aag top).read ≡ read_aag) }
+    ensures cnf { (top : ℕ) → ((format_of FormatWord.Cnf top).write ≡ layout_text top) × ((format_of FormatWord.Cnf top).read ≡ read_cnf top) }
+{}
+
+/// The number after which the fresh variables of a reply come: no variable of the accepted clauses or the assumptions is
+/// above it, and unless it is 0, it is one of them.
+pub fn greatest_variable_of_a_solve()
+    ensures above { (state : State) (assumptions : List PartLiteral) (x : ℕ) → Occurs x (bare_clauses (with_units state.accepted assumptions)) → x ≤ greatest_named state assumptions }
+    ensures occurs { (state : State) (assumptions : List PartLiteral) → greatest_named state assumptions ≢ 0 → Occurs (greatest_named state assumptions) (bare_clauses (with_units state.accepted assumptions)) }
 {}
 
 /// The systems that a word names: one alone, which labels each variable of both sides B, AB or A or by its mark, or
@@ -49,13 +71,13 @@ pub fn labels_of_marks()
     ensures last { (marks : List (ℕ × Label)) (x : ℕ) (label : Label) → IsLastMark marks x label }
 {}
 
-/// A refuting reply prints some of the assumptions as failed, and then a number of bytes and so many. They read back as
-/// a circuit with an output for each cut and each system that is set, named by the cut and the family.
+/// A refuting reply prints some of the assumptions as failed, and then a number of bytes and so many. They read back in
+/// the format that is set as a circuit with an output for each cut and each system that is set, named by the cut and the family.
 pub fn contents_of_a_refutation()
     ensures text { EachRefutingReply (λ state assumptions text reply. PrintsRefutation text reply.failed reply.block.bytes) }
     ensures failed { EachRefutingReply (λ state assumed text reply. AreFirstOnes assumed reply.failed × FirstPlacesRise assumed reply.failed) }
-    ensures read { EachRefutingReply (λ state assumptions text reply. IsTextOf reply.block.bytes reply.gives.circuit) }
-    ensures strict { EachRefutingReply (λ state assumptions text reply. IsStrictText reply.block.bytes) }
+    ensures read { EachRefutingReply (λ state assumed text reply. IsTextOf (format_in state assumed) reply.block.bytes reply.gives.circuit) }
+    ensures strict { EachRefutingReply (λ state assumed text reply. IsStrictText (format_in state assumed) reply.block.bytes) }
     ensures outputs { EachRefutingReply (λ state assumptions text reply. HaveOutputs reply.block.outputs reply.gives.circuit.outputs) }
     ensures named { EachRefutingReply (λ state assumed text reply. AreNamedBy (written_systems state.settings) state.settings.cuts reply.gives.circuit.outputs) }
     ensures literals { EachRefutingReply (λ state assumptions text reply. AreLiteralsOf reply.gives.systems reply.gives.circuit.outputs) }
@@ -109,20 +131,22 @@ pub fn replies_to_lines()
     ensures mark { EachReply (λ state line text. (name : ℕ) (m : MarkWord) → reading state line ≡ Ok (Mark name m) → text ≡ codes "ok\n") }
     ensures cuts { EachReply (λ state line text. (cuts : CutWord) → reading state line ≡ Ok (Cuts cuts) → text ≡ codes "ok\n") }
     ensures limit { EachReply (λ state line text. (limit : Option ℕ) → reading state line ≡ Ok (Limit limit) → text ≡ codes "ok\n") }
+    ensures format { EachReply (λ state line text. (f : FormatWord) → reading state line ≡ Ok (Format f) → text ≡ codes "ok\n") }
     ensures solve { EachReply (λ state line text. (pairs : List (ℕ × ℤ)) → reading state line ≡ Ok (Solve pairs) → MayAnswer state pairs text) }
     ensures refused { EachReply (λ state line text. (refusal : Refusal) → reading state line ≡ Err refusal → text ≡ refusal_text refusal) }
 {}
 
-/// Two parts, no mark, all cuts, the limit of the start and no clause come before the first line. An added clause is accepted last, a
-/// setting is set, where the number of parts sets the cuts too, and any other line changes nothing.
+/// Two parts, no mark, all cuts, the system, the format and the limit of the start and no clause come before the first
+/// line. An added clause is accepted last, a setting is set, where the number of parts sets the cuts too, and any other line changes nothing.
 pub fn states_after_lines()
-    ensures start { (settings : Settings) → StartsWith settings.system settings.limit (start settings) }
+    ensures start { (settings : Settings) → StartsWith settings.system settings.format settings.limit (start settings) }
     ensures add { EachAddition (λ state part lits after. HasAccepted state part lits after) }
     ensures parts { EachReading (λ n. Ok (Parts n)) (λ state n after. IsDivided state n after) }
     ensures system { EachReading (λ s. Ok (System s)) (λ state s after. after ≡ with_system state s) }
     ensures mark { EachMark (λ state name label after. after ≡ with_mark state name label) }
     ensures cuts { EachReading (λ w. Ok (Cuts w)) (λ state w after. HasCuts state w after) }
     ensures limit { EachReading (λ l. Ok (Limit l)) (λ state l after. after ≡ with_limit state l) }
+    ensures format { EachReading (λ f. Ok (Format f)) (λ state f after. after ≡ with_format state f) }
     ensures nothing { (state : State) (line : Line) → reading state line ≡ Ok Nothing → next state line ≡ state }
     ensures solve { (state : State) (line : Line) (pairs : List (ℕ × ℤ)) → reading state line ≡ Ok (Solve pairs) → next state line ≡ state }
     ensures refused { (state : State) (line : Line) (refusal : Refusal) → reading state line ≡ Err refusal → next state line ≡ state }

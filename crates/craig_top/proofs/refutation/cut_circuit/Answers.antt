@@ -1,3 +1,7 @@
+use Rattle.std.proofs.lemmas.Result.{IfOk-weaker}
+use Rattle.craig_spec.specs.Circuit.{IsCircuit}
+use Rattle.craig_aiger.specs.Layouts.{IsWritable, Layout, circuit_of}
+use Rattle.craig_top.proofs.FormatLemmas.{layout_is_circuit}
 use Rattle.std.proofs.Common.{refl}
 use Rattle.craig_top.specs.Material.{view_of}
 use Rattle.craig_top.proofs.WrittenOutputsLemmas.{edges_within, inputs_named, within_chosen, written_layout}
@@ -22,3 +26,6 @@ pub returns-clause-cuts : goal.returns-clause-cuts
 returns-clause-cuts c =
     written_layout (view_of c.args.material.now) c.args.root.0 c.systems_outputs.new.aig c.deref.result.now c.in_ok-outputs.outputs.items c.deref-2.result.now c.in_ok-outputs.ensures.outputs c.deref-2.ensures.value
     c.new.result (rw (c.deref.ensures.value, c.in_ok-cuts.ensures, c.parts.ensures.value) refl) c.new.ensures.layout c.new.ensures.functions
+
+pub returns-clause-circuit : goal.returns-clause-circuit
+returns-clause-circuit c = IfOk-weaker c.new.result IsWritable (λ (l : Layout). IsCircuit (circuit_of l)) layout_is_circuit c.new.ensures.is_writable

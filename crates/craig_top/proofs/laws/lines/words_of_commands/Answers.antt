@@ -1,4 +1,4 @@
-use Rattle.craig_top.proofs.CommandLinesLemmas.{line_of_all_cuts, line_of_cuts, line_that_adds, line_that_divides, line_that_limits, line_that_marks, line_that_names_a_system, line_that_solves, literal_form_of, overlong_line, read_lines_are_short}
+use Rattle.craig_top.proofs.CommandLinesLemmas.{line_of_all_cuts, line_of_cuts, line_that_adds, line_that_divides, line_that_formats, line_that_limits, line_that_marks, line_that_names_a_system, line_that_solves, literal_form_of, overlong_line, read_lines_are_short}
 use Rattle.craig_top.proofs.laws.lines.words_of_commands.Goals as goal
 
 pub returns-clause-add : goal.returns-clause-add
@@ -30,3 +30,6 @@ returns-clause-overlong c = overlong_line
 
 pub returns-clause-limit : goal.returns-clause-limit
 returns-clause-limit c = line_that_limits (literal_form_of (λ word n is. (c.decimal_forms.ensures.read word n is).0)) (λ word n is. (c.decimal_forms.ensures.read word n is).0)
+
+pub returns-clause-format : goal.returns-clause-format
+returns-clause-format c = line_that_formats (literal_form_of (λ word n is. (c.decimal_forms.ensures.read word n is).0)) (λ word n is. (c.decimal_forms.ensures.read word n is).0)

@@ -1,4 +1,4 @@
-use Rattle.craig_top.proofs.ReplyContentsLemmas.{reply_to_add, reply_to_cuts, reply_to_limit, reply_to_mark, reply_to_parts, reply_to_system, reply_to_nothing, reply_to_refused, reply_to_solve}
+use Rattle.craig_top.proofs.ReplyContentsLemmas.{reply_to_add, reply_to_cuts, reply_to_format, reply_to_limit, reply_to_mark, reply_to_parts, reply_to_system, reply_to_nothing, reply_to_refused, reply_to_solve}
 use Rattle.craig_top.proofs.laws.replies.replies_to_lines.Goals as goal
 
 pub returns-clause-nothing : goal.returns-clause-nothing
@@ -27,3 +27,6 @@ returns-clause-refused c = reply_to_refused
 
 pub returns-clause-limit : goal.returns-clause-limit
 returns-clause-limit c = reply_to_limit
+
+pub returns-clause-format : goal.returns-clause-format
+returns-clause-format c = reply_to_format

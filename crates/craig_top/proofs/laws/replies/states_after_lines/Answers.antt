@@ -1,4 +1,4 @@
-use Rattle.craig_top.proofs.ReplyContentsLemmas.{next_after_add, next_after_cuts, next_after_limit, next_after_mark, next_after_parts, next_after_system, next_after_nothing, next_after_refused, next_after_solve}
+use Rattle.craig_top.proofs.ReplyContentsLemmas.{next_after_add, next_after_cuts, next_after_format, next_after_limit, next_after_mark, next_after_parts, next_after_system, next_after_nothing, next_after_refused, next_after_solve}
 use Rattle.craig_top.proofs.laws.replies.states_after_lines.Goals as goal
 
 pub returns-clause-parts : goal.returns-clause-parts
@@ -27,3 +27,6 @@ returns-clause-refused c = next_after_refused
 
 pub returns-clause-limit : goal.returns-clause-limit
 returns-clause-limit c = next_after_limit
+
+pub returns-clause-format : goal.returns-clause-format
+returns-clause-format c = next_after_format

@@ -9,13 +9,14 @@ pub divide-requires-clause-none : goal.divide-requires-clause-none
 divide-requires-clause-none c = none_accepted c.args.self.now.sides.parts c.args.self.now.names c.args.self.now.solver.accepted c.in-Parts.count (subst (IsAdmitted c.args.self.now) c.in-Parts.is c.requires.admitted)
 
 pub returns-in-Cuts-All-clause-kept : goal.returns-in-Cuts-All-clause-kept
-returns-in-Cuts-All-clause-kept c = record { together = c.requires.kept.together; chosen = chosen-all c.args.self.now.sides.parts; limited = c.requires.kept.limited }
+returns-in-Cuts-All-clause-kept c = record { together = c.requires.kept.together; chosen = chosen-all c.args.self.now.sides.parts; limited = c.requires.kept.limited; greatest = c.requires.kept.greatest }
 
 pub returns-in-Limit-clause-kept : goal.returns-in-Limit-clause-kept
 returns-in-Limit-clause-kept c = record {
   together = c.requires.kept.together;
   chosen = c.requires.kept.chosen;
   limited = limit-admitted c.args.self.now.sides.parts _ _ (subst (IsAdmitted c.args.self.now) c.in-Limit.is c.requires.admitted);
+  greatest = c.requires.kept.greatest;
 }
 
 pub chosen_cuts-requires : goal.chosen_cuts-requires
@@ -26,4 +27,5 @@ returns-clause-kept c = record {
   together = c.requires.kept.together;
   chosen = chosen-admitted c.args.self.now.sides.parts _ _ _ _ _ _ c.in-Cuts-Chosen.is c.in-Cuts-Chosen.field-0-is c.as_slice-in-Cuts-Chosen.ensures c.requires.admitted c.requires.as_read c.in_ok-chosen_cuts-in-Cuts-Chosen.ensures;
   limited = c.requires.kept.limited;
+  greatest = c.requires.kept.greatest;
 }

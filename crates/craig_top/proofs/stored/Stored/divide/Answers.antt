@@ -16,8 +16,9 @@ returns-clause-kept c = record {
   };
   chosen = chosen-all (c.new.result).parts;
   limited = c.requires.kept.limited;
+  greatest = c.requires.kept.greatest;
 }
 
 pub returns-clause-state : goal.returns-clause-state
 returns-clause-state c =
-    ap (λ (s : SidesView). stored_state (settings_of s.parts (record { system = c.args.self.now.choices.system; marks = c.args.self.now.choices.marks; cuts = None; limit = c.args.self.now.choices.limit })) c.args.self.now.names c.args.self.now.solver.accepted) c.new.ensures
+    ap (λ (s : SidesView). stored_state (settings_of s.parts (record { system = c.args.self.now.choices.system; marks = c.args.self.now.choices.marks; cuts = None; format = c.args.self.now.choices.format; limit = c.args.self.now.choices.limit })) c.args.self.now.names c.args.self.now.solver.accepted) c.new.ensures

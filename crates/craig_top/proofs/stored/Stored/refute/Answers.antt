@@ -1,4 +1,4 @@
-use Rattle.std.proofs.Common.{◌≡◌, ◌∙◌, List, [], Some, ap, refl, subst, sym}
+use Rattle.std.proofs.Common.{◌≡◌, ◌≤◌, ◌∙◌, List, [], Some, ap, refl, subst, sym}
 use Rattle.craig_spec.specs.Cut.{AreChosenCuts}
 use Rattle.craig_spec.specs.Chain.{IsTold, clause_told}
 use Rattle.craig_spec.specs.Literal.{Clause}
@@ -7,7 +7,8 @@ use Rattle.craig_proof.specs.ChainStore.{ChainStoreView}
 use Rattle.craig_top.specs.RestsOn.{RestsOn}
 use Rattle.craig_top.specs.Sides.{AreSidesOf, parted, with_assumed}
 use Rattle.craig_top.specs.Naming.{named_assumptions}
-use Rattle.craig_top.specs.Stored.{HaveNames, given_state, settings_of}
+use Rattle.craig_top.specs.Formats.{greatest_named}
+use Rattle.craig_top.specs.Stored.{HaveNames, given_state, settings_of, stored_state}
 use Rattle.craig_top.proofs.PutBackLemmas.{AreSidesOf-back}
 use Rattle.craig_top.proofs.StoredLemmas.{HaveNames-assumed}
 use Rattle.craig_top.proofs.VerdictLemmas.{empty-told, refuted-stored}
@@ -26,6 +27,7 @@ append_refutation-requires-clause-material c =
       told = rw (c.accepted.ensures.value, c.tracer.ensures.value) (c.tracer.ensures.told c.requires.alive _ refl);
       parts = refl;
       chosen = subst (λ n. AreChosenCuts n (settings_of n c.args.self.now.choices).cuts) (sym c.note_assumptions.ensures.parts) c.requires.kept.chosen;
+      top = subst (λ (clauses : List (Part × Clause)). greatest_named (stored_state (settings_of sides.parts c.args.self.now.choices) names clauses) (named_assumptions names failed) ≤ c.args.top) (sym same) c.requires.top;
     }
 
 pub append_refutation-requires-clause-empty : goal.append_refutation-requires-clause-empty
@@ -49,11 +51,12 @@ returns-clause-kept c =
       };
       chosen = subst (λ n. AreChosenCuts n (settings_of n c.args.self.now.choices).cuts) (sym same) c.requires.kept.chosen;
       limited = c.requires.kept.limited;
+      greatest = c.requires.kept.greatest;
     }
 
 pub returns-clause-reply : goal.returns-clause-reply
 returns-clause-reply c =
     refuted-stored (given_state c.args.self.now) (settings_of c.args.self.now.sides.parts c.args.self.now.choices) (settings_of c.note_assumptions.new.sides.parts c.args.self.now.choices) c.args.self.now.names
     c.tracer.result.now.told.steps c.args.self.now.solver.tracer.told.steps c.args.root.0 (named_assumptions c.args.self.now.names c.args.failed.now) c.args.self.now.solver.accepted c.accepted.result.now
-    c.args.out.now.items c.append_refutation.new.out.items refl c.accepted.ensures.value (ap (λ n. settings_of n c.args.self.now.choices) c.note_assumptions.ensures.parts)
+    c.args.out.now.items c.append_refutation.new.out.items c.args.top refl c.accepted.ensures.value (ap (λ n. settings_of n c.args.self.now.choices) c.note_assumptions.ensures.parts)
     (ap (λ (s : ChainStoreView). s.told.steps) c.tracer.ensures.value) c.in_ok-append_refutation.ensures.reply

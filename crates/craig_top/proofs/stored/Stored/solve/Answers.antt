@@ -1,4 +1,4 @@
-use Rattle.std.proofs.Common.{◌≡◌, ◌∙◌, ◌++◌, ℕ, List, Some, OnOk, length, map, ap, arith, refl, subst, sym}
+use Rattle.std.proofs.Common.{◌≤◌, ◌≡◌, ◌∙◌, ◌++◌, ℕ, List, Some, OnOk, length, map, ap, arith, refl, subst, sym}
 use Rattle.craig_spec.specs.Chain.{Told}
 use Rattle.craig_spec.specs.FailedAssumptions.{NamesFailed}
 use Rattle.craig_spec.specs.Literal.{Clause}
@@ -11,6 +11,10 @@ use Rattle.craig_solver.specs.Told.{IsRefutation}
 use Rattle.craig_spec.specs.Cut.{with_units}
 use Rattle.craig_top.specs.Named.{bare_clauses}
 use Rattle.craig_top.specs.LastRefutation.{IsSolveReplyBy}
+use Rattle.craig_spec.specs.DimacsText.{greatest_of_clauses}
+use Rattle.craig_top.specs.Formats.{greatest_named}
+use Rattle.craig_top.specs.GivenState.{State}
+use Rattle.craig_top.proofs.FormatLemmas.{failed-within, named-top}
 use Rattle.craig_top.specs.Naming.{named_assumptions, named_clause}
 use Rattle.craig_top.specs.Reply.{assumptions_of}
 use Rattle.craig_top.specs.RestsOn.{RestsOn}
@@ -57,6 +61,7 @@ refute-requires-clause-kept c =
           (omega (arith, c.in_ok-answer.ensures.vars, reached, c.len.ensures.value, c.requires.kept.together.known, c.in_ok-assumptions.ensures.grows.longer));
       chosen = c.requires.kept.chosen;
       limited = c.requires.kept.limited;
+      greatest = c.requires.kept.greatest ∙ ap (λ (s : State). greatest_of_clauses (bare_clauses s.accepted)) (sym (stored_state-grown (settings_of c.args.self.now.sides.parts c.args.self.now.choices) (settings_of c.args.self.now.sides.parts c.args.self.now.choices) c.args.self.now.names c.dense_assumptions.new.names c.args.self.now.solver.accepted c.solve.new.self.accepted refl c.in_ok-assumptions.ensures.grows c.requires.kept.together.stored (c.in_ok-answer.ensures.accepted ∙ c.in_ok-reach.ensures.accepted)));
     }
 
 pub refute-requires-clause-over : goal.refute-requires-clause-over
@@ -94,6 +99,27 @@ refute-requires-clause-rests c =
     subst (λ (ys : Assumptions). RestsOn (with_assumed c.solve.new.self.accepted ys) t c.in-Failed.root.0) (sym (c.deref-in-Failed-2.ensures.value ∙ c.in_ok-failed-in-Failed.ensures))
     (subst (λ (clauses : List (Part × Clause)). RestsOn (with_assumed clauses (at_places xs c.in-Failed.places)) t c.in-Failed.root.0) (sym c.in_ok-answer.ensures.accepted) (RestsOn-told c.reach.new.self.accepted xs c.in-Failed.root.0 c.in-Failed.places t refutation))
 
+pub refute-requires-clause-top : goal.refute-requires-clause-top
+refute-requires-clause-top c =
+    let names = c.dense_assumptions.new.names in
+    let settings = settings_of c.args.self.now.sides.parts c.args.self.now.choices in
+    let xs : Assumptions = c.deref-in-Failed.result.now in
+    let chosen : Assumptions = c.deref-in-Failed-2.result.now in
+    let before = stored_state settings names c.solve.new.self.accepted in
+    let state : before ≡ given_state c.args.self.now =
+    stored_state-grown settings settings c.args.self.now.names names c.args.self.now.solver.accepted c.solve.new.self.accepted refl c.in_ok-assumptions.ensures.grows c.requires.kept.together.stored (c.in_ok-answer.ensures.accepted ∙ c.in_ok-reach.ensures.accepted) in
+    let are : named_assumptions names xs ≡ assumptions_of c.args.pairs.now = ap (named_assumptions names) c.deref-in-Failed.ensures.value ∙ c.in_ok-assumptions.ensures.assumptions in
+    let first : AreFirstPlaces xs c.in-Failed.places =
+    failed-places c.args.self.now.choices.limit _ _ c.deref.result.now xs c.in_ok-answer.answer c.in-Failed.root c.in-Failed.places (c.deref.ensures.value ∙ sym c.deref-in-Failed.ensures.value) c.in-Failed.is c.in_ok-answer.ensures.solved.answer in
+    let over : IsOver (length names) (literals xs) = subst (λ (ys : Assumptions). IsOver (length names) (literals ys)) (sym c.deref-in-Failed.ensures.value) c.in_ok-assumptions.ensures.over in
+    let named : NamesFailed (named_assumptions names xs) (named_assumptions names chosen) =
+    subst (λ (ys : Assumptions). NamesFailed (named_assumptions names xs) (named_assumptions names ys)) (sym (c.deref-in-Failed-2.ensures.value ∙ c.in_ok-failed-in-Failed.ensures))
+    (NamesFailed-named names (AreDifferent-from_IsDistinct names c.len.ensures.are_names.distinct) xs over c.in-Failed.places first) in
+    let top : greatest_named before (named_assumptions names xs) ≡ c.max-top.result =
+    ap (λ (s : State). greatest_named s (named_assumptions names xs)) state ∙ ap (greatest_named (given_state c.args.self.now)) are
+    ∙ named-top (given_state c.args.self.now) c.args.pairs.now c.args.self.now.greatest c.greatest_assumed.result c.max-top.result c.requires.kept.greatest c.greatest_assumed.ensures c.max-top.ensures in
+    subst (λ (n : ℕ). greatest_named before (named_assumptions names chosen) ≤ n) top (failed-within before (named_assumptions names xs) (named_assumptions names chosen) named)
+
 pub returns-in-Model-clause-kept : goal.returns-in-Model-clause-kept
 returns-in-Model-clause-kept c =
     let reached = ap (λ (v : SolverView _). v.vars) c.in_ok-reach.ensures.reached in
@@ -103,6 +129,7 @@ returns-in-Model-clause-kept c =
           (omega (arith, c.in_ok-answer.ensures.vars, reached, c.len.ensures.value, c.requires.kept.together.known, c.in_ok-assumptions.ensures.grows.longer));
       chosen = c.requires.kept.chosen;
       limited = c.requires.kept.limited;
+      greatest = c.requires.kept.greatest ∙ ap (λ (s : State). greatest_of_clauses (bare_clauses s.accepted)) (sym (stored_state-grown (settings_of c.args.self.now.sides.parts c.args.self.now.choices) (settings_of c.args.self.now.sides.parts c.args.self.now.choices) c.args.self.now.names c.dense_assumptions.new.names c.args.self.now.solver.accepted c.solve.new.self.accepted refl c.in_ok-assumptions.ensures.grows c.requires.kept.together.stored (c.in_ok-answer.ensures.accepted ∙ c.in_ok-reach.ensures.accepted)));
     })
 
 pub returns-in-Model-clause-reply : goal.returns-in-Model-clause-reply
@@ -142,8 +169,11 @@ returns-in-Failed-clause-reply c =
     subst (λ (ys : Assumptions). NamesFailed (named_assumptions names xs) (named_assumptions names ys)) (sym (c.deref-in-Failed-2.ensures.value ∙ c.in_ok-failed-in-Failed.ensures))
     (NamesFailed-named names (AreDifferent-from_IsDistinct names c.len.ensures.are_names.distinct) xs over c.in-Failed.places first) in
     let kept = c.solve.new.self.tracer.told.steps in
+    let is_top : greatest_named before (named_assumptions names xs) ≡ c.max-top.result =
+    ap (λ (s : State). greatest_named s (named_assumptions names xs)) state ∙ ap (greatest_named (given_state c.args.self.now)) are
+    ∙ named-top (given_state c.args.self.now) c.args.pairs.now c.args.self.now.greatest c.greatest_assumed.result c.max-top.result c.requires.kept.greatest c.greatest_assumed.ensures c.max-top.ensures in
     let reply : OnOk c.refute.result ((text : List ℕ) × IsSolveReplyBy names kept c.solve.new.self.root (given_state c.args.self.now) c.args.pairs.now text × (c.refute.new.out.items ≡ c.args.out.now.items ++ text)) =
-    refuted-reply c.refute.result (given_state c.args.self.now) before names kept c.solve.new.self.root c.in-Failed.root.0 (named_assumptions names chosen) (named_assumptions names xs) c.args.pairs.now c.args.out.now.items c.refute.new.out.items state root are named c.refute.ensures.reply in
+    refuted-reply c.refute.result (given_state c.args.self.now) before names kept c.solve.new.self.root c.in-Failed.root.0 (named_assumptions names chosen) (named_assumptions names xs) c.args.pairs.now c.args.out.now.items c.refute.new.out.items c.max-top.result state root are named is_top c.refute.ensures.reply in
     subst (λ (v : SolverView ChainStore). OnOk c.refute.result ((text : List ℕ) × IsSolveReplyBy c.refute.new.self.names v.tracer.told.steps v.root (given_state c.args.self.now) c.args.pairs.now text × (c.refute.new.out.items ≡ c.args.out.now.items ++ text))) (sym c.refute.ensures.same.solver)
     (subst (λ (ns : List ℕ). OnOk c.refute.result ((text : List ℕ) × IsSolveReplyBy ns kept c.solve.new.self.root (given_state c.args.self.now) c.args.pairs.now text × (c.refute.new.out.items ≡ c.args.out.now.items ++ text))) (sym c.refute.ensures.same.names) reply)
 
@@ -164,6 +194,7 @@ returns-clause-kept c =
           (omega (arith, c.in_ok-answer.ensures.vars, reached, c.len.ensures.value, c.requires.kept.together.known, c.in_ok-assumptions.ensures.grows.longer));
       chosen = c.requires.kept.chosen;
       limited = c.requires.kept.limited;
+      greatest = c.requires.kept.greatest ∙ ap (λ (s : State). greatest_of_clauses (bare_clauses s.accepted)) (sym (stored_state-grown (settings_of c.args.self.now.sides.parts c.args.self.now.choices) (settings_of c.args.self.now.sides.parts c.args.self.now.choices) c.args.self.now.names c.dense_assumptions.new.names c.args.self.now.solver.accepted c.solve.new.self.accepted refl c.in_ok-assumptions.ensures.grows c.requires.kept.together.stored (c.in_ok-answer.ensures.accepted ∙ c.in_ok-reach.ensures.accepted)));
     })
 
 pub returns-clause-reply : goal.returns-clause-reply

@@ -1,6 +1,6 @@
 use Rattle.craig_aiger.specs.AsciiText.{aag_text}
 use Rattle.craig_top.proofs.ReplyLemmas.{bytes-appended}
-use Rattle.craig_top.proofs.reply.append_interpolants.Goals as goal
+use Rattle.craig_top.proofs.reply.append_aag.Goals as goal
 
 pub returns-clause-text : goal.returns-clause-text
 returns-clause-text c =

@@ -269,7 +269,7 @@ fn only_word(line: &[u8]) -> Option<&[u8]>
 }
 
 /// The system that the word names.
-fn system_named(word: &[u8]) -> Option<SystemWord>
+pub fn system_named(word: &[u8]) -> Option<SystemWord>
     ensures { result ≡ system_named word.now }
 {
     if is_word(word, b"mcmillan") {
@@ -305,7 +305,7 @@ fn mark_named(word: &[u8]) -> Option<MarkWord>
 }
 
 /// The format that the word names.
-fn format_named(word: &[u8]) -> Option<FormatWord>
+pub fn format_named(word: &[u8]) -> Option<FormatWord>
     ensures { result ≡ format_named word.now }
 {
     if is_word(word, b"aag") {

@@ -24,7 +24,7 @@ const UNSATISFIABLE: Row = Row {
 };
 
 /// Scripts that are read to their end.
-const ROWS: [Row; 33] = [
+const ROWS: [Row; 36] = [
     UNSATISFIABLE,
     Row {
         shows: "a cut variable alone, where an expansion over local ones would keep the input 2",
@@ -170,6 +170,21 @@ const ROWS: [Row; 33] = [
         shows: "another number of parts chooses all cuts",
         script: b"parts 4096\ncuts 0 4096\nparts 1\nadd 1 0\nsolve 0\n",
         replies: b"ok\nok\nok\nok\ns UNSATISFIABLE\nf 0\na 28\naag 0 0 0 2 0\n1\n0\no0 0\no1 1\n",
+    },
+    Row {
+        shows: "interpolants as clauses",
+        script: b"format cnf\nadd 1 1 0\nadd 2 -1 0\nsolve 0\n",
+        replies: b"ok\nok\nok\ns UNSATISFIABLE\nf 0\na 34\nc o 0 T\nc o 1 1\nc o 2 F\np cnf 1 0\n",
+    },
+    Row {
+        shows: "a gate as clauses, its variable above an assumption that isn't named",
+        script: b"system mcmillan\ncuts 1\nformat cnf\nadd 1 1 0\nadd 1 2 0\nadd 2 -1 -2 0\nsolve 1 9 0\n",
+        replies: b"ok\nok\nok\nok\nok\nok\ns UNSATISFIABLE\nf 0\na 47\nc o 1 10\np cnf 10 3\n-10 2 0\n-10 1 0\n10 -2 -1 0\n",
+    },
+    Row {
+        shows: "formats, and what is none",
+        script: b"format\nformat dimacs\nformat cnf cnf\nformat CNF\nformat cnf\nformat aag\n",
+        replies: b"e 1\ne 1\ne 1\ne 1\nok\nok\n",
     },
     Row {
         shows: "limits, and what is none",

@@ -1,9 +1,10 @@
 -- The lemmas of an unknown reply.
-use Rattle.std.specs.Prelude.{◌≡◌, ◌++◌, Contains, codes, decimal, ℕ, ◌<◌, List, length, map, All, Some, slice_index_or}
+use Rattle.std.specs.Prelude.{◌≡◌, ◌++◌, Contains, codes, decimal, ℕ, ◌<◌, ◌≤◌, List, length, map, All, Some, slice_index_or}
 use Rattle.std.specs.List.{flat_map}
 use Rattle.std.specs.List.Sorted.{IsPermutation, IsNonDecreasing, IsStrictlyIncreasing}
 use Rattle.craig_spec.specs.Cut.{PartClause}
 use Rattle.craig_spec.specs.Literal.{Clause}
+use Rattle.craig_spec.specs.Occurs.{Occurs}
 use Rattle.craig_base.specs.LemmaRule.{MeetsLemmaRule}
 use Rattle.craig_top.specs.GivenState.{State}
 use Rattle.craig_top.specs.Named.{bare_clauses}
@@ -52,3 +53,11 @@ EachUnknownReply Says = (state : State) (text : List ℕ) (reply : IsUnknownRepl
 -- what is said holds of each lemma of each unknown reply: of the accepted clauses and the lemma
 abbrev pub EachLemma : (List Clause → Clause → Type 0) → Type 0
 EachLemma Says = (state : State) (text : List ℕ) (reply : IsUnknownReply state text) (lemma : Clause) → Contains reply.lemmas lemma → Says (map (λ (a : PartClause). a.clause) state.accepted) lemma
+
+-- the variables of the accepted clauses are all in the list
+abbrev pub HaveOnly : List ℕ → State → Type 0
+HaveOnly vars state = (x : ℕ) → Occurs x (map (λ (a : PartClause). a.clause) state.accepted) → Contains vars x
+
+-- the limit is at most the number
+abbrev pub IsLimitUpTo : ℕ → State → Type 0
+IsLimitUpTo most state = (n : ℕ) → state.settings.limit ≡ Some n → n ≤ most

@@ -1,6 +1,6 @@
 //! What replies say, what their bytes are, and what a line does to the given state.
 
-ghost use Rattle.std.specs.Prelude.{◌≡◌, ◌≢◌, ◌≤◌, Option, Some, IsTrue, Contains, length, ℕ, [], ◌++◌, List, Ok, Err, ℤ, true, codes, decimal, map, pos};
+ghost use Rattle.std.specs.Prelude.{◌≡◌, ◌≢◌, ◌≤◌, ◌*◌, ◌^◌, Option, Some, IsTrue, Contains, length, ℕ, [], ◌++◌, List, Ok, Err, ℤ, true, codes, decimal, map, pos};
 ghost use Rattle.craig_spec.specs.AigerReading.{read_aag};
 ghost use Rattle.craig_spec.specs.CircuitCnf.{read_cnf};
 ghost use Rattle.craig_spec.specs.Cut.{PartLiteral, with_units};
@@ -27,7 +27,7 @@ ghost use Rattle.craig_top.specs.Formats.{format_in, format_of, greatest_named};
 ghost use Rattle.craig_top.specs.GivenState.{State, next, reading, script_literal, start};
 ghost use Rattle.craig_top.specs.Named.{bare_clauses};
 ghost use Rattle.craig_top.specs.RefutationReply.{AreNoHigher};
-ghost use Rattle.craig_top.specs.LemmaReply.{EachLemma, EachUnknownReply, IsLemmaText};
+ghost use Rattle.craig_top.specs.LemmaReply.{EachLemma, EachUnknownReply, HaveOnly, IsLemmaText, IsLimitUpTo};
 ghost use Rattle.craig_top.specs.ReplyContents.{AreLiteralsOf, AreNamedBy, AreThree, AreThreeByStrength, EachAddition, EachDrawnSystem, EachMark, EachReading, EachRefutingReply, EachReply, EachReplyOfAll, EachReplySystem, EachText, EachTwoSystems, HasAccepted, HasCuts, HaveOutputs, IsAlone, IsDivided, IsLastMark, IsPrintedFirst, IsStrictText, IsTextOf, MayAnswer, PrintsRefutation, RefusalsAreNumbered, StartsWith, with_format, with_limit, with_mark, with_system};
 ghost use Rattle.craig_top.specs.ReplyTexts.{literals_text, refusal_text};
 ghost use Rattle.craig_top.specs.TrueParts.{AreFirstOnes, AreImplied, AreOfCuts, AreRefuted, AreTrueWith, FirstPlacesRise, HaveWith, ImplyLaterOnes, ReachSharedVariables};
@@ -110,16 +110,20 @@ pub fn three_systems_by_strength()
 
 /// A reply that lists lemmas has as many as the limit. Each is true wherever the accepted clauses are, has variables of
 /// theirs alone, by rising number, no literal beside its negation, and contains none of them; none stands more than twice.
+/// So where the accepted clauses have `v` variables, no such reply comes under a limit above `2 * 3^v`.
 pub fn lemmas_of_a_reply()
     ensures text { EachUnknownReply (λ state text lemmas. IsLemmaText text lemmas) }
     ensures many { EachUnknownReply (λ state text lemmas. state.settings.limit ≡ Some (length lemmas)) }
     ensures few { EachUnknownReply (λ state text lemmas. NoneMoreThanTwice lemmas) }
+    ensures low { EachUnknownReply (λ state text lemmas. (vars : List ℕ) → HaveOnly vars state → IsLimitUpTo (2 * 3 ^ length vars) state) }
     ensures implied { EachLemma (λ accepted lemma. Implies accepted (λ s. IsTrue (clause_value s lemma))) }
     ensures known { EachLemma (λ accepted lemma. (x : ℕ) → IsTrue (occurs_in_clause x lemma) → Occurs x accepted) }
     ensures sound { EachLemma (λ accepted lemma. (l : Literal) → Contains lemma l → ¬ Contains lemma (negation l)) }
     ensures new { EachLemma (λ accepted lemma. (c : Clause) → Contains accepted c → ¬ ContainsClause lemma c) }
     ensures rising { EachLemma (λ accepted lemma. IsStrictlyIncreasing (map (λ l. l.var) lemma)) }
-{}
+{
+    craig_base::laws::no_longer_list();
+}
 
 /// The reply to a line is no text, `ok`, the number of a refusal, a model of the accepted clauses and the assumed
 /// literals, a refutation of them, or as many implied clauses as the limit, as the line is read in the state.

@@ -1,4 +1,5 @@
-use Rattle.std.proofs.Common.{Contains, IsTrue, map, ℕ}
+use Rattle.std.proofs.Common.{◌∙◌, ◌≤◌, ◌*◌, ◌^◌, sym, subst, length, Contains, IsTrue, map, ℕ}
+use Rattle.std.proofs.lemmas.Option.{same_Some}
 use Rattle.std.proofs.lemmas.List.Elements.{All-contains}
 use Rattle.std.specs.List.Sorted.{IsStrictlyIncreasing}
 use Rattle.craig_base.specs.Clauses.{IsTautology}
@@ -32,3 +33,8 @@ returns-clause-new c = λ state text reply lemma here. All-contains (λ (d : Cla
 
 pub returns-clause-rising : goal.returns-clause-rising
 returns-clause-rising c = λ state text reply lemma here. All-contains (λ (d : Clause). IsStrictlyIncreasing (map (λ (l : Literal). l.var) d)) reply.lemmas lemma reply.rising here
+
+pub returns-clause-low : goal.returns-clause-low
+returns-clause-low c = λ state text reply vars only n is.
+    let few : length reply.lemmas ≤ 2 * 3 ^ length vars = c.no_longer_list.ensures.lemmas vars (bare_clauses state.accepted) reply.lemmas only reply.rule in
+    subst (λ m. m ≤ 2 * 3 ^ length vars) (same_Some (length reply.lemmas) n (sym reply.many ∙ is)) few

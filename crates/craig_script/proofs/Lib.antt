@@ -4,3 +4,4 @@ pub mod Outcomes
 pub mod ReadingLemmas
 pub mod RisingLemmas
 pub mod WordsLemmas
+pub mod WritingLemmas

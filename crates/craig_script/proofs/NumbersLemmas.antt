@@ -24,6 +24,9 @@ all_ascii_digits-is : (ds : List ℕ) → all_ascii_digits ds ≡ list_all is_as
 all_ascii_digits-is [] = refl
 all_ascii_digits-is (d ∷ ds) = ap (λ z. is_ascii_digit d && z) (all_ascii_digits-is ds)
 
+pub digits-decimal : (n : ℕ) → n < 2 ^ 64 → list_all is_ascii_digit (decimal n) ≡ true
+digits-decimal n h = sym (all_ascii_digits-is (decimal n)) ∙ digits_decimal own n h
+
 -- what the test of a number tells
 record Spelled (word : List ℕ) : Type 0 where
   some : 1 ≤ length word
@@ -78,7 +81,7 @@ spelled-decimal n h =
       some = decimal_nonempty n fits;
       short = length-decimal-le digit_limit n (omega arith) h fits;
       canonical = canonical-decimal n fits (zero_or_more n);
-      digits = sym (all_ascii_digits-is (decimal n)) ∙ digits_decimal own n fits;
+      digits = digits-decimal n fits;
     }
 
 pub number_of-decimal : (n : ℕ) → n < 10 ^ digit_limit → number_of (decimal n) ≡ Some n

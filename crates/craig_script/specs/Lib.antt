@@ -1,5 +1,7 @@
+pub mod Appended
 pub mod Lines
 pub mod NumberWords
 pub mod Reading
 pub mod Refusals
 pub mod Words
+pub mod Writing

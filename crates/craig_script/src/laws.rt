@@ -1,11 +1,17 @@
 //! Laws of the definitions, for proofs about whole streams and about what is written. The functions do nothing.
 
-ghost use Rattle.std.specs.Prelude.{◌≡◌, ◌≢◌, ℕ, ◌^◌, ◌<◌, ℤ, pos, List, [], ◌++◌, map};
+ghost use Rattle.std.specs.Prelude.{◌≡◌, ◌≢◌, ℕ, ◌^◌, ◌<◌, ◌≤◌, ℤ, pos, List, [], ◌++◌, length, map, Contains, IsTrue, Ok};
 ghost use Rattle.std.specs.Fmt.{decimal, signed_decimal};
 ghost use Rattle.std.specs.Int.RustNames.{unsigned_abs};
 ghost use Rattle.std.specs.List.{concat};
 ghost use Rattle.craig_script.specs.NumberWords.{IsLiteralWord, number_of, literal_of};
+ghost use Rattle.craig_script.specs.Reading.{command_of, parsed};
+ghost use Rattle.craig_script.specs.Words.{words};
+ghost use Rattle.craig_script.specs.Writing.{command_line, command_words, is_writable};
+ghost use Rattle.craig_script.specs.declared.command.Command.{Command};
+ghost use Rattle.craig_script.specs.declared.command.Command.TheVariants as command;
 ghost use Rattle.craig_script.specs.declared.line.Line.{Line};
+ghost use Rattle.craig_script.specs.declared.line.Line.TheVariants.{Text};
 ghost use Rattle.craig_script.specs.Lines.{LinesView, before_first_byte, fed, ended, with_given, all_fed, line_of, whole_lines, script_lines};
 
 /// It makes no difference where a stream is cut into pieces.
@@ -34,4 +40,14 @@ pub fn decimal_forms()
     ensures number { (n : ℕ) → n < 10 ^ 18 → number_of (decimal n) ≡ Some n }
     ensures literal { (z : ℤ) → z ≢ pos 0 → unsigned_abs z < 10 ^ 18 → literal_of (signed_decimal z) ≡ Some z }
     ensures read_literal { (word : List ℕ) (z : ℤ) → literal_of word ≡ Some z → IsLiteralWord word z }
+{}
+
+/// A command that `parse` gives can be written, and is read again as the same. A command that can be written has the
+/// words that its line is made of, and is read from them; none of its bytes is a newline.
+pub fn written_commands()
+    ensures given { (bytes : List ℕ) (c : Command) → parsed (Text bytes) ≡ Ok c → c ≢ command.Nothing → IsTrue (is_writable c) }
+    ensures words { (c : Command) → IsTrue (is_writable c) → words (command_line c) ≡ command_words c }
+    ensures read_back { (c : Command) → IsTrue (is_writable c) → command_of (words (command_line c)) ≡ Ok c }
+    ensures line { (c : Command) → IsTrue (is_writable c) → length (command_line c) ≤ 1048576 → parsed (Text (command_line c)) ≡ Ok c }
+    ensures no_newline { (c : Command) → IsTrue (is_writable c) → ¬ Contains (command_line c) 10 }
 {}

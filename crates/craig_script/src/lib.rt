@@ -8,6 +8,7 @@
 mod admission;
 mod bytes;
 mod command;
+mod commands;
 mod cut_word;
 pub mod laws;
 mod line;
@@ -19,10 +20,12 @@ mod reading;
 mod refusal;
 mod setting_words;
 mod words;
+mod writing;
 
 pub use admission::admit;
 pub use bytes::Bytes;
 pub use command::Command;
+pub use commands::Commands;
 pub use cut_word::CutWord;
 pub use line::Line;
 pub use lines::{LINE_LIMIT, Lines};
@@ -32,3 +35,4 @@ pub use pairs::Pairs;
 pub use reading::{format_named, parse, system_named};
 pub use refusal::{LineFault, Refusal};
 pub use setting_words::{FormatWord, MarkWord, SystemWord};
+pub use writing::write_command;

@@ -1,3 +1,5 @@
+pub mod GeneratedLemmas
+pub mod GeneratorLemmas
 pub mod LinesLemmas
 pub mod NumbersLemmas
 pub mod Outcomes

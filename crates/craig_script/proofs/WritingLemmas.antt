@@ -31,7 +31,7 @@ use Rattle.craig_script.specs.Writing.{are_writable_cuts, command_line, command_
 use Rattle.craig_script.proofs.NumbersLemmas.{digits-decimal, literal_of-is_decimal, literal_of-signed_decimal, number_of-decimal, number_of-is_decimal}
 use Rattle.craig_script.proofs.WordsLemmas.{in_word}
 
-both_true : (a b : Bool) → a ≡ true → b ≡ true → (a && b) ≡ true
+pub both_true : (a b : Bool) → a ≡ true → b ≡ true → (a && b) ≡ true
 both_true a b p q = rw (p, q) refl
 
 -- ---- the words of a line that is written

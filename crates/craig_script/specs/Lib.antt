@@ -1,4 +1,5 @@
 pub mod Appended
+pub mod Generator
 pub mod Lines
 pub mod NumberWords
 pub mod Reading

@@ -1,11 +1,12 @@
 //! Laws of the definitions, for proofs about whole streams and about what is written. The functions do nothing.
 
-ghost use Rattle.std.specs.Prelude.{◌≡◌, ◌≢◌, ℕ, ◌^◌, ◌<◌, ◌≤◌, ℤ, pos, List, [], ◌++◌, length, map, Contains, IsTrue, Ok};
+ghost use Rattle.std.specs.Prelude.{◌≡◌, ◌≢◌, ℕ, ◌+◌, ◌*◌, ◌^◌, ◌<◌, ◌≤◌, Bool, false, ℤ, pos, List, [], ◌++◌, count_by, count_ones, drop, length, map, Contains, IsTrue, Ok};
 ghost use Rattle.std.specs.Fmt.{decimal, signed_decimal};
 ghost use Rattle.std.specs.Int.RustNames.{unsigned_abs};
 ghost use Rattle.std.specs.List.{concat};
 ghost use Rattle.craig_script.specs.NumberWords.{IsLiteralWord, number_of, literal_of};
-ghost use Rattle.craig_script.specs.Reading.{command_of, parsed};
+ghost use Rattle.craig_script.specs.Generator.{adds_clause, generated};
+ghost use Rattle.craig_script.specs.Reading.{admitted, command_of, parsed, variables_named};
 ghost use Rattle.craig_script.specs.Words.{words};
 ghost use Rattle.craig_script.specs.Writing.{command_line, command_words, is_writable};
 ghost use Rattle.craig_script.specs.declared.command.Command.{Command};
@@ -50,4 +51,18 @@ pub fn written_commands()
     ensures read_back { (c : Command) → IsTrue (is_writable c) → command_of (words (command_line c)) ≡ Ok c }
     ensures line { (c : Command) → IsTrue (is_writable c) → length (command_line c) ≤ 1048576 → parsed (Text (command_line c)) ≡ Ok c }
     ensures no_newline { (c : Command) → IsTrue (is_writable c) → ¬ Contains (command_line c) 10 }
+{}
+
+/// The generator's script of so many steps, from 1 to 60, has 46 clauses for each step, seven for the start and one for
+/// each bit that is set in the bound. It names variables from 1 to seven more than fourteen times the number of steps.
+/// Its first command is accepted where a script begins, and each later one where there is one part more than steps. Each
+/// can be written, and its line is read as it.
+pub fn generated_scripts()
+    ensures clauses { (n : ℕ) → n ≤ 60 → count_by adds_clause (generated n) ≡ 7 + 46 * n + count_ones (2 * n + 1) }
+    ensures variables { (n : ℕ) (c : Command) (v : ℕ) → Contains (generated n) c → Contains (variables_named c) v → (1 ≤ v) × (v ≤ 14 * n + 7) }
+    ensures greatest { (n : ℕ) → 1 ≤ n → (c : Command) × Contains (generated n) c × Contains (variables_named c) (14 * n + 7) }
+    ensures first { (n : ℕ) → n ≤ 60 → admitted 2 false (command.Parts (n + 1)) ≡ Ok tt }
+    ensures later { (n : ℕ) (any : Bool) (c : Command) → n ≤ 60 → Contains (drop 1 (generated n)) c → admitted (n + 1) any c ≡ Ok tt }
+    ensures writable { (n : ℕ) (c : Command) → n ≤ 60 → Contains (generated n) c → IsTrue (is_writable c) }
+    ensures read { (n : ℕ) (c : Command) → n ≤ 60 → Contains (generated n) c → parsed (Text (command_line c)) ≡ Ok c }
 {}

@@ -2,7 +2,8 @@
 //!
 //! `Lines` takes a stream in pieces and gives its lines, however it was cut. `parse` reads a line as a
 //! command by the grammar alone, and `admit` then tests its parts and variables against their ranges.
-//! Variables are the script's own here: whole numbers from 1 on, signed in a literal.
+//! Variables are the script's own here: whole numbers from 1 on, signed in a literal. `write_command` writes
+//! the line of a command, and `make` makes the commands of a whole script.
 #![tactic(auto)]
 
 mod admission;
@@ -10,6 +11,7 @@ mod bytes;
 mod command;
 mod commands;
 mod cut_word;
+mod generator;
 pub mod laws;
 mod line;
 mod lines;
@@ -27,6 +29,7 @@ pub use bytes::Bytes;
 pub use command::Command;
 pub use commands::Commands;
 pub use cut_word::CutWord;
+pub use generator::{clause_count, greatest_variable, make};
 pub use line::Line;
 pub use lines::{LINE_LIMIT, Lines};
 pub use literal::number_in;

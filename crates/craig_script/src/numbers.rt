@@ -1,6 +1,6 @@
 //! A list of signed numbers, as the literals of a clause.
 
-ghost use Rattle.std.specs.Prelude.{◌≡◌, List, [], ◌∷◌, ◌++◌, ℤ, OnOk, OnErr};
+ghost use Rattle.std.specs.Prelude.{◌≡◌, List, [], ◌∷◌, ◌++◌, ℤ, IfOk, OnOk, OnErr};
 
 use std::alloc::{AllocError, Global};
 use std::marker::Model;
@@ -26,6 +26,14 @@ impl Numbers {
         Numbers {
             items: Vec::new(alloc),
         }
+    }
+
+    /// These numbers.
+    pub fn from_slice(alloc: Global, items: &[i64]) -> Result<Self, AllocError>
+        ensures { IfOk result (λ n. n ≡ items.now) }
+    {
+        let items = Vec::from_slice(alloc, items)?;
+        Ok(Numbers { items })
     }
 
     /// Appends a number. After an error, for which only want of memory is a cause, the list is as before.

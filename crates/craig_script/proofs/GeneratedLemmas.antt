@@ -13,7 +13,7 @@ use lib.Count.{ones as count_ones, ones_in}
 use Rattle.std.specs.Int.RustNames.{unsigned_abs}
 use Rattle.std.specs.List.{count_by, filter, flat_map, list_all, range_with_len}
 use Rattle.craig_script.specs.declared.command.Command.{Command}
-use Rattle.craig_script.specs.declared.command.Command.TheVariants.{Nothing, Parts, Add, System, Mark, Cuts, Limit, Solve}
+use Rattle.craig_script.specs.declared.command.Command.TheVariants.{Nothing, Parts, Add, System, Mark, Cuts, Limit, Format, Solve}
 use Rattle.craig_script.specs.declared.line.Line.TheVariants as line
 use Rattle.craig_script.specs.Generator.{adds_clause, end_bound, end_clause, end_clauses, fails, falling_bits, first_helper, generated, has_bit, higher_bit, holds, in_part, inner_bit, lowest_bit, next_helper, start_clause, state_bit, step_clauses, step_commands, step_helper, step_input}
 use Rattle.craig_script.proofs.GeneratorLemmas.{flat_map_push, range_more}
@@ -186,6 +186,7 @@ is_small_command limit parts (System s) = false
 is_small_command limit parts (Mark name m) = false
 is_small_command limit parts (Cuts cuts) = false
 is_small_command limit parts (Limit l) = false
+is_small_command limit parts (Format f) = false
 is_small_command limit parts (Solve []) = true
 is_small_command limit parts (Solve (pair ∷ pairs)) = false
 
@@ -236,6 +237,7 @@ small_variables limit parts (System s) v e here = absurd (cc)
 small_variables limit parts (Mark name m) v e here = absurd (cc)
 small_variables limit parts (Cuts cuts) v e here = absurd (cc)
 small_variables limit parts (Limit l) v e here = absurd (cc)
+small_variables limit parts (Format f) v e here = absurd (cc)
 small_variables limit parts (Solve []) v e (k, within, at) = absurd (omega (arith, within))
 small_variables limit parts (Solve (pair ∷ pairs)) v e here = absurd (cc)
 
@@ -301,6 +303,7 @@ small_admitted parts any (System s) e = absurd (cc)
 small_admitted parts any (Mark name m) e = absurd (cc)
 small_admitted parts any (Cuts cuts) e = absurd (cc)
 small_admitted parts any (Limit l) e = absurd (cc)
+small_admitted parts any (Format f) e = absurd (cc)
 small_admitted parts any (Solve []) e = admits_solve parts any
 small_admitted parts any (Solve (pair ∷ pairs)) e = absurd (cc)
 
@@ -336,6 +339,7 @@ small_writable parts (System s) few e = absurd (cc)
 small_writable parts (Mark name m) few e = absurd (cc)
 small_writable parts (Cuts cuts) few e = absurd (cc)
 small_writable parts (Limit l) few e = absurd (cc)
+small_writable parts (Format f) few e = absurd (cc)
 small_writable parts (Solve []) few e = refl
 small_writable parts (Solve (pair ∷ pairs)) few e = absurd (cc)
 
@@ -426,6 +430,7 @@ small_short parts (System s) few e = absurd (cc)
 small_short parts (Mark name m) few e = absurd (cc)
 small_short parts (Cuts cuts) few e = absurd (cc)
 small_short parts (Limit l) few e = absurd (cc)
+small_short parts (Format f) few e = absurd (cc)
 small_short parts (Solve []) few e = lit≤ tt
 small_short parts (Solve (pair ∷ pairs)) few e = absurd (cc)
 

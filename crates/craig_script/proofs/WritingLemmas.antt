@@ -13,9 +13,11 @@ use Rattle.std.specs.Int.RustNames.{unsigned_abs}
 use Rattle.std.specs.List.{filter, flat_map, join_with_byte, list_all, slice_split}
 use Rattle.std.specs.Str.{bytes_eq}
 use Rattle.craig_script.specs.declared.command.Command.{Command}
-use Rattle.craig_script.specs.declared.command.Command.TheVariants.{Nothing, Parts, Add, System, Mark, Cuts, Limit, Solve}
+use Rattle.craig_script.specs.declared.command.Command.TheVariants.{Nothing, Parts, Add, System, Mark, Cuts, Limit, Format, Solve}
 use Rattle.craig_script.specs.declared.cut_word.CutWord.{CutWord}
 use Rattle.craig_script.specs.declared.cut_word.CutWord.TheVariants as cut
+use Rattle.craig_script.specs.declared.setting_words.FormatWord.{FormatWord}
+use Rattle.craig_script.specs.declared.setting_words.FormatWord.TheVariants as format
 use Rattle.craig_script.specs.declared.setting_words.MarkWord.{MarkWord}
 use Rattle.craig_script.specs.declared.setting_words.MarkWord.TheVariants as mark
 use Rattle.craig_script.specs.declared.setting_words.SystemWord.{SystemWord}
@@ -25,9 +27,9 @@ use Rattle.craig_script.specs.declared.refusal.Refusal.{Refusal}
 use Rattle.craig_script.specs.declared.refusal.Refusal.TheVariants.{Syntax, Overlong}
 use Rattle.craig_script.specs.Lines.{line_limit}
 use Rattle.craig_script.specs.NumberWords.{literal_of, number_of}
-use Rattle.craig_script.specs.Reading.{◌>>=◌, add_of, command_of, cuts_of, is_comment, is_end, limit_of, literals_to_end, mark_named, mark_of, numbers_to_end, only_word, or_syntax, pairs_to_end, parsed, parts_of, solve_of, system_named, system_of, then_nothing}
+use Rattle.craig_script.specs.Reading.{format_named, format_of, ◌>>=◌, add_of, command_of, cuts_of, is_comment, is_end, limit_of, literals_to_end, mark_named, mark_of, numbers_to_end, only_word, or_syntax, pairs_to_end, parsed, parts_of, solve_of, system_named, system_of, then_nothing}
 use Rattle.craig_script.specs.Words.{has_byte, is_separator, words}
-use Rattle.craig_script.specs.Writing.{are_writable_cuts, command_line, command_words, cut_words, has_cut, is_writable, is_writable_cut, is_writable_literal, is_writable_number, is_writable_pair, mark_word, pair_words, spaced, system_word}
+use Rattle.craig_script.specs.Writing.{format_word, are_writable_cuts, command_line, command_words, cut_words, has_cut, is_writable, is_writable_cut, is_writable_literal, is_writable_number, is_writable_pair, mark_word, pair_words, spaced, system_word}
 use Rattle.craig_script.proofs.NumbersLemmas.{digits-decimal, literal_of-is_decimal, literal_of-signed_decimal, number_of-decimal, number_of-is_decimal}
 use Rattle.craig_script.proofs.WordsLemmas.{in_word}
 
@@ -144,6 +146,10 @@ mark_word-is_word mark.A = refl
 mark_word-is_word mark.Ab = refl
 mark_word-is_word mark.B = refl
 
+format_word-is_word : (f : FormatWord) → is_word (format_word f) ≡ true
+format_word-is_word format.Aag = refl
+format_word-is_word format.Cnf = refl
+
 one_word : (w : List ℕ) → is_word w ≡ true → list_all is_word (w ∷ []) ≡ true
 one_word w e = both_true (is_word w) true e refl
 
@@ -159,6 +165,7 @@ words-of_command (Cuts cut.All) e = refl
 words-of_command (Cuts (cut.Chosen cuts)) e = cuts-are_words cuts (and_parts (has_cut cuts) (list_all is_writable_cut cuts) e).1
 words-of_command (Limit None) e = refl
 words-of_command (Limit (Some n)) e = one_word (decimal n) (decimal-is_word n (small_number n e))
+words-of_command (Format f) e = one_word (format_word f) (format_word-is_word f)
 words-of_command (Solve pairs) e = pairs-are_words pairs (codes "0" ∷ []) e refl
 
 pub words-of_line : (c : Command) → is_writable c ≡ true → words (command_line c) ≡ command_words c
@@ -211,6 +218,10 @@ mark-read mark.A = refl
 mark-read mark.Ab = refl
 mark-read mark.B = refl
 
+format-read : (f : FormatWord) → format_named (format_word f) ≡ Some f
+format-read format.Aag = refl
+format-read format.Cnf = refl
+
 cuts-read : (cuts : List ℤ) → are_writable_cuts (cut.Chosen cuts) ≡ true → cuts_of (map signed_decimal cuts) ≡ Ok (Cuts (cut.Chosen cuts))
 cuts-read [] e = absurd cc
 cuts-read (negsuc n ∷ zs) e = absurd cc
@@ -235,6 +246,7 @@ command_read (Limit (Some n)) e =
     let read : number_of (decimal n) ≡ Some n = number_of-decimal n (small_number n e) in
     let other : bytes_eq (decimal n) (codes "none") ≡ false = other_word number_of (decimal n) (codes "none") n read refl in
     rw (other, read) refl
+command_read (Format f) e = rw (format-read f) refl
 command_read (Solve pairs) e = rw (pairs-read pairs e) refl
 
 pub line_read : (c : Command) → is_writable c ≡ true → command_of (words (command_line c)) ≡ Ok c
@@ -369,6 +381,7 @@ is_nothing_or_writable (System s) = true
 is_nothing_or_writable (Mark name m) = is_writable (Mark name m)
 is_nothing_or_writable (Cuts cuts) = is_writable (Cuts cuts)
 is_nothing_or_writable (Limit limit) = is_writable (Limit limit)
+is_nothing_or_writable (Format f) = true
 is_nothing_or_writable (Solve pairs) = is_writable (Solve pairs)
 
 -- there is a cut where a word is there to write it
@@ -392,7 +405,8 @@ passes-command (w ∷ ws) =
     (chosen (bytes_eq w (codes "mark")) (mark_of ws) _ (marks ws)
     (chosen (bytes_eq w (codes "cuts")) (cuts_of ws) _ (cuts ws)
     (chosen (bytes_eq w (codes "limit")) (limit_of ws) _ (limits ws)
-    (chosen (bytes_eq w (codes "solve")) (solve_of ws) (Err Syntax) (solves ws) (record { passed = refl })))))))) in
+    (chosen (bytes_eq w (codes "format")) (format_of ws) _ (formats ws)
+    (chosen (bytes_eq w (codes "solve")) (solve_of ws) (Err Syntax) (solves ws) (record { passed = refl }))))))))) in
     all.passed
   where
     chosen : (b : Bool) (x y : Result Command Refusal) → passes is_nothing_or_writable x ≡ true → Passes is_nothing_or_writable y → Passes is_nothing_or_writable (if b then x else y)
@@ -433,6 +447,11 @@ passes-command (w ∷ ws) =
         passes-then always is_nothing_or_writable (only_word ws) (λ w. if bytes_eq w (codes "none") then Ok (Limit None) else (or_syntax (number_of w) >>= λ n. Ok (Limit (Some n)))) (passes-always (only_word ws))
         (λ w e. passes-chosen is_nothing_or_writable (bytes_eq w (codes "none")) (Ok (Limit None)) _ refl (passes-then is_writable_number is_nothing_or_writable (or_syntax (number_of w)) (λ n. Ok (Limit (Some n))) (passes-number w) (λ n h. h)))
 
+    formats : (ws : List (List ℕ)) → passes is_nothing_or_writable (format_of ws) ≡ true
+    formats ws =
+        passes-then always is_nothing_or_writable (only_word ws) (λ w. or_syntax (format_named w) >>= λ f. Ok (Format f)) (passes-always (only_word ws))
+        (λ w e. passes-then always is_nothing_or_writable (or_syntax (format_named w)) (λ f. Ok (Format f)) (passes-always (or_syntax (format_named w))) (λ f h. refl))
+
     solves : (ws : List (List ℕ)) → passes is_nothing_or_writable (solve_of ws) ≡ true
     solves ws = passes-then (list_all is_writable_pair) is_nothing_or_writable (pairs_to_end ws) (λ pairs. Ok (Solve pairs)) (passes-pairs ws) (λ pairs h. h)
 
@@ -447,6 +466,7 @@ is_some_command (System s) e some = e
 is_some_command (Mark name m) e some = e
 is_some_command (Cuts cuts) e some = e
 is_some_command (Limit limit) e some = e
+is_some_command (Format f) e some = refl
 is_some_command (Solve pairs) e some = e
 
 pub given_is_writable : (bytes : List ℕ) (c : Command) → parsed (line.Text bytes) ≡ Ok c → c ≢ Nothing → is_writable c ≡ true

@@ -3,7 +3,7 @@
 use Rattle.std.specs.Prelude.{ℕ, ◌+◌, ◌-◌, ◌*◌, ◌/◌, ◌%◌, ◌^◌, Bool, true, false, not, ◌==◌, List, [], ◌∷◌, ◌++◌, ℤ, pos, neg_ℤ, map}
 use Rattle.std.specs.List.{filter, flat_map, range_with_len}
 use Rattle.craig_script.specs.declared.command.Command.{Command}
-use Rattle.craig_script.specs.declared.command.Command.TheVariants.{Nothing, Parts, Add, System, Mark, Cuts, Limit, Solve}
+use Rattle.craig_script.specs.declared.command.Command.TheVariants.{Nothing, Parts, Add, System, Mark, Cuts, Limit, Format, Solve}
 use Rattle.craig_script.specs.declared.generator.Said.{Said}
 use Rattle.craig_script.specs.declared.generator.Said.TheVariants.{Holds, Fails}
 
@@ -118,4 +118,5 @@ adds_clause (System s) = false
 adds_clause (Mark name m) = false
 adds_clause (Cuts cuts) = false
 adds_clause (Limit limit) = false
+adds_clause (Format f) = false
 adds_clause (Solve pairs) = false

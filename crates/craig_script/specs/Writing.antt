@@ -4,9 +4,11 @@ use Rattle.std.specs.Fmt.{decimal, signed_decimal}
 use Rattle.std.specs.Int.RustNames.{unsigned_abs}
 use Rattle.std.specs.List.{flat_map, join_with_byte, list_all}
 use Rattle.craig_script.specs.declared.command.Command.{Command}
-use Rattle.craig_script.specs.declared.command.Command.TheVariants.{Nothing, Parts, Add, System, Mark, Cuts, Limit, Solve}
+use Rattle.craig_script.specs.declared.command.Command.TheVariants.{Nothing, Parts, Add, System, Mark, Cuts, Limit, Format, Solve}
 use Rattle.craig_script.specs.declared.cut_word.CutWord.{CutWord}
 use Rattle.craig_script.specs.declared.cut_word.CutWord.TheVariants as cut
+use Rattle.craig_script.specs.declared.setting_words.FormatWord.{FormatWord}
+use Rattle.craig_script.specs.declared.setting_words.FormatWord.TheVariants as format
 use Rattle.craig_script.specs.declared.setting_words.MarkWord.{MarkWord}
 use Rattle.craig_script.specs.declared.setting_words.MarkWord.TheVariants as mark
 use Rattle.craig_script.specs.declared.setting_words.SystemWord.{SystemWord}
@@ -37,6 +39,11 @@ abbrev pub limit_word : Option ℕ → List ℕ
 limit_word None = codes "none"
 limit_word (Some n) = decimal n
 
+-- the word for a format
+abbrev pub format_word : FormatWord → List ℕ
+format_word format.Aag = codes "aag"
+format_word format.Cnf = codes "cnf"
+
 -- the words for an assumption
 abbrev pub pair_words : (ℕ × ℤ) → List (List ℕ)
 pair_words pair = decimal pair.0 ∷ (signed_decimal pair.1 ∷ [])
@@ -50,6 +57,7 @@ command_words (System s) = codes "system" ∷ (system_word s ∷ [])
 command_words (Mark name m) = codes "mark" ∷ (decimal name ∷ (mark_word m ∷ []))
 command_words (Cuts cuts) = codes "cuts" ∷ cut_words cuts
 command_words (Limit limit) = codes "limit" ∷ (limit_word limit ∷ [])
+command_words (Format f) = codes "format" ∷ (format_word f ∷ [])
 command_words (Solve pairs) = codes "solve" ∷ (flat_map pair_words pairs ++ codes "0" ∷ [])
 
 -- the words, each behind a space
@@ -105,4 +113,5 @@ is_writable (System s) = true
 is_writable (Mark name m) = is_writable_number name
 is_writable (Cuts cuts) = are_writable_cuts cuts
 is_writable (Limit limit) = is_writable_limit limit
+is_writable (Format f) = true
 is_writable (Solve pairs) = list_all is_writable_pair pairs

@@ -8,11 +8,11 @@ ghost use Rattle.std.specs.List.{flat_map, join_with_byte};
 ghost use Rattle.craig_script.specs.Appended.{AppendsOnly};
 ghost use Rattle.craig_script.specs.Reading.{command_of};
 ghost use Rattle.craig_script.specs.Words.{words};
-ghost use Rattle.craig_script.specs.Writing.{command_line, command_text, command_words, cut_words, is_writable, limit_word, mark_word, pair_words, spaced, system_word};
+ghost use Rattle.craig_script.specs.Writing.{command_line, command_text, command_words, cut_words, format_word, is_writable, limit_word, mark_word, pair_words, spaced, system_word};
 
 use crate::command::Command;
 use crate::cut_word::CutWord;
-use crate::setting_words::{MarkWord, SystemWord};
+use crate::setting_words::{FormatWord, MarkWord, SystemWord};
 use itoa::Buffer;
 use std::alloc::AllocError;
 
@@ -58,6 +58,7 @@ fn append_words(out: &mut Vec<u8>, command: &Command) -> Result<(), AllocError>
         Command::Mark { name, mark } => append_mark(out, *name, *mark),
         Command::Cuts(cuts) => append_cuts(out, cuts),
         Command::Limit(limit) => append_limit(out, *limit),
+        Command::Format(format) => append_format(out, *format),
         Command::Solve(pairs) => append_solve(out, pairs.as_slice()),
     }
 }
@@ -124,6 +125,15 @@ fn append_limit(out: &mut Vec<u8>, limit: Option<u64>) -> Result<(), AllocError>
         None => out.extend_from_slice(b" none"),
         Some(limit) => append_number(out, limit),
     }
+}
+
+/// The words of a format.
+fn append_format(out: &mut Vec<u8>, format: FormatWord) -> Result<(), AllocError>
+    ensures text { OnOk result (out.new.items ≡ out.old.items ++ (codes "format" ++ spaced (format_word format ∷ []))) }
+    ensures appends { AppendsOnly out.old.items out.new.items }
+{
+    out.extend_from_slice(b"format ")?;
+    out.extend_from_slice(format_word(format))
 }
 
 /// The words of a solve.
@@ -209,5 +219,15 @@ fn mark_word(mark: MarkWord) -> &'static [u8]
         MarkWord::A => b"a",
         MarkWord::Ab => b"ab",
         MarkWord::B => b"b",
+    }
+}
+
+/// The word for a format.
+fn format_word(format: FormatWord) -> &'static [u8]
+    ensures { result.now ≡ format_word format }
+{
+    match format {
+        FormatWord::Aag => b"aag",
+        FormatWord::Cnf => b"cnf",
     }
 }

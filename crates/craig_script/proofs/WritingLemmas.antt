@@ -22,6 +22,7 @@ use Rattle.craig_script.specs.declared.setting_words.MarkWord.{MarkWord}
 use Rattle.craig_script.specs.declared.setting_words.MarkWord.TheVariants as mark
 use Rattle.craig_script.specs.declared.setting_words.SystemWord.{SystemWord}
 use Rattle.craig_script.specs.declared.setting_words.SystemWord.TheVariants as system
+use Rattle.craig_script.specs.declared.line.Line.{Line}
 use Rattle.craig_script.specs.declared.line.Line.TheVariants as line
 use Rattle.craig_script.specs.declared.refusal.Refusal.{Refusal}
 use Rattle.craig_script.specs.declared.refusal.Refusal.TheVariants.{Syntax, Overlong}
@@ -469,5 +470,6 @@ is_some_command (Limit limit) e some = e
 is_some_command (Format f) e some = refl
 is_some_command (Solve pairs) e some = e
 
-pub given_is_writable : (bytes : List ℕ) (c : Command) → parsed (line.Text bytes) ≡ Ok c → c ≢ Nothing → is_writable c ≡ true
-given_is_writable bytes c e some = is_some_command c (sym (ap (passes is_nothing_or_writable) e) ∙ passes-line bytes) some
+pub given_is_writable : (l : Line) (c : Command) → parsed l ≡ Ok c → c ≢ Nothing → is_writable c ≡ true
+given_is_writable line.Overlong c e some = absurd (cc)
+given_is_writable (line.Text bytes) c e some = is_some_command c (sym (ap (passes is_nothing_or_writable) e) ∙ passes-line bytes) some

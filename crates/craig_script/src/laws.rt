@@ -46,7 +46,7 @@ pub fn decimal_forms()
 /// A command that `parse` gives can be written, and is read again as the same. A command that can be written has the
 /// words that its line is made of, and is read from them; none of its bytes is a newline.
 pub fn written_commands()
-    ensures given { (bytes : List ℕ) (c : Command) → parsed (Text bytes) ≡ Ok c → c ≢ command.Nothing → IsTrue (is_writable c) }
+    ensures given { (line : Line) (c : Command) → parsed line ≡ Ok c → c ≢ command.Nothing → IsTrue (is_writable c) }
     ensures words { (c : Command) → IsTrue (is_writable c) → words (command_line c) ≡ command_words c }
     ensures read_back { (c : Command) → IsTrue (is_writable c) → command_of (words (command_line c)) ≡ Ok c }
     ensures line { (c : Command) → IsTrue (is_writable c) → length (command_line c) ≤ 1048576 → parsed (Text (command_line c)) ≡ Ok c }

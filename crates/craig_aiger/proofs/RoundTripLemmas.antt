@@ -208,7 +208,7 @@ module _ (l : Layout) (h : IsWritable l) where
 
   -- what is written is read back
   pub reads_as : ReadsAs l (aag_text l)
-  unfolding read_aag reading.aiger_reading
+  unfolding read_aag reading.aag_reading
   reads_as =
       let bytes : bytes_of (lines_of (aag_text l)) ≡ text_lines l = ap (λ t. bytes_of (lines_of t)) (aag_text-lines l) ∙ bytes-lines_of (text_lines l) (text_lines-lines l h) in
       let f = all_lines (length (aag_text l)) (lines_of (aag_text l)) bytes in

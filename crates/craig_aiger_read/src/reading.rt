@@ -1,6 +1,6 @@
 //! The reading of a text.
 ghost use Rattle.std.specs.Prelude.{◌≡◌, ◌≤◌, Ok, length, IfErr, IfOk};
-ghost use Rattle.craig_spec.specs.AigerReading.{IsDefinedFile, Written as WrittenText, aiger_reading, file_written};
+ghost use Rattle.craig_spec.specs.AigerReading.{IsDefinedFile, Written as WrittenText, aag_reading, file_written};
 ghost use Rattle.craig_aiger_read.specs.ReadFaults.{IsFaultOf, IsReadAs};
 ghost use Rattle.craig_aiger_read.specs.ReadFiles.{as_file};
 ghost use Rattle.craig_aiger_read.specs.ReadWritten.{KeepsWritten};
@@ -22,7 +22,7 @@ use std::alloc::Global;
 /// After Biere, Heljanko and Wieringa, AIGER 1.9 and beyond, 2011.
 #[tactic(none)]
 pub fn read(alloc: Global, bytes: &[u8]) -> Result<Circuit, AigerError>
-    ensures read { IsReadAs as_file result (aiger_reading bytes.now) }
+    ensures read { IsReadAs as_file result (aag_reading bytes.now) }
     ensures defined { IfOk result (λ circuit. IsDefinedFile (as_file circuit)) }
 {
     laws::files_are_defined();

@@ -9,7 +9,7 @@ use Rattle.std.proofs.lemmas.List.Folds.{list_any-append}
 use Rattle.std.proofs.lemmas.List.FromFn.{length-map-range_with_len}
 use Rattle.craig_spec.specs.Circuit.{Gate}
 use Rattle.craig_spec.specs.AigerFault.{Fault, FaultKind}
-use Rattle.craig_spec.specs.AigerReading.{AigerFile, Counts, FileLatch, FileRoot, GateLine, IsDefinedFile, LatchLine, RootLine, Symbol, TextLine, Use, Written, by_depth, aiger_reading, file_by, file_variables, file_written, first_cyclic, first_gate, first_undefined, gate_use, header_in, is_new, latch_use, leaves_of, lines_of, moved, moved_gates, name_of, named_latches, named_roots, numbered, numbered_gates, read_from, root_use, unless_found, uses_of, uses_other, variables_of, written_in, ◌>>=◌}
+use Rattle.craig_spec.specs.AigerReading.{AigerFile, Counts, FileLatch, FileRoot, GateLine, IsDefinedFile, LatchLine, RootLine, Symbol, TextLine, Use, Written, by_depth, aag_reading, file_by, file_variables, file_written, first_cyclic, first_gate, first_undefined, gate_use, header_in, is_new, latch_use, leaves_of, lines_of, moved, moved_gates, name_of, named_latches, named_roots, numbered, numbered_gates, read_from, root_use, unless_found, uses_of, uses_other, variables_of, written_in, ◌>>=◌}
 use Rattle.craig_spec.proofs.AigerDepthLemmas.{HaveDepths, HaveDepths-found, is_deepless}
 use Rattle.craig_spec.proofs.AigerOrderLemmas.{has, in_first}
 use Rattle.craig_spec.proofs.AigerMovedLemmas.{AreInside, InOrder-moved, IsOrder, IsOrder-by_depth, moved_within}
@@ -188,8 +188,8 @@ from_lines end [] f e = absurd cc
 from_lines end (line ∷ lines) f e = from_counts-by (header_in line) (λ c. written_in c end lines) f e
 
 -- the file of a text is defined
-pub IsDefinedFile-reading : (bytes : List ℕ) (f : AigerFile) → aiger_reading bytes ≡ Ok f → IsDefinedFile f
-unfolding aiger_reading
-IsDefinedFile-reading bytes f e =
+pub IsDefinedFile-aag : (bytes : List ℕ) (f : AigerFile) → aag_reading bytes ≡ Ok f → IsDefinedFile f
+unfolding aag_reading
+IsDefinedFile-aag bytes f e =
     let w = from_lines (length bytes) (lines_of bytes) f e in
     defined w.0 f (written w.0 f w.1)

@@ -6,3 +6,5 @@ pub mod AigerDepthLemmas
 pub mod AigerOrderLemmas
 pub mod AigerMovedLemmas
 pub mod AigerFileLemmas
+pub mod SevenBitsLemmas
+pub mod AigerBinaryLemmas

@@ -478,8 +478,8 @@ read_from end [] = fault FaultKind.Header 0
 read_from end (line ∷ lines) = header_in line >>= λ c. (written_in c end lines >>= file_written)
 
 -- the file that a text writes, or its first fault
-unfoldable pub aiger_reading : List ℕ → Result AigerFile Fault
-aiger_reading bytes = read_from (length bytes) (lines_of bytes)
+unfoldable pub aag_reading : List ℕ → Result AigerFile Fault
+aag_reading bytes = read_from (length bytes) (lines_of bytes)
 
 -- goes on with what there is
 infixl 10 ◌>>?◌
@@ -518,4 +518,4 @@ without_fault (Err e) = None
 
 -- the circuit that a text is
 unfoldable pub read_aag : List ℕ → Option Circuit
-read_aag bytes = without_fault (aiger_reading bytes) >>? file_circuit
+read_aag bytes = without_fault (aag_reading bytes) >>? file_circuit

@@ -7,6 +7,8 @@ pub mod PartialInterpolant
 pub mod Circuit
 pub mod AigerFault
 pub mod AigerReading
+pub mod SevenBits
+pub mod AigerBinary
 pub mod Cut
 pub mod FailedAssumptions
 pub mod Sequence

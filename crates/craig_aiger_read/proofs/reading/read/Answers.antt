@@ -1,6 +1,6 @@
 use Rattle.std.proofs.Common.{arith}
 use Rattle.std.proofs.lemmas.Result.{err_from_is_err_and}
-use Rattle.craig_spec.specs.AigerReading.{Written as WrittenText, aiger_reading}
+use Rattle.craig_spec.specs.AigerReading.{Written as WrittenText, aag_reading}
 use Rattle.craig_aiger_read.specs.ReadFiles.{as_file}
 use Rattle.craig_aiger_read.specs.ReadViews.{as_counts}
 use Rattle.craig_aiger_read.specs.ReadWritten.{KeepsWritten}
@@ -17,7 +17,7 @@ returns-in_default-clause-defined c = tt
 pub returns-in_err-counts-clause-read : goal.returns-in_err-counts-clause-read
 returns-in_err-counts-clause-read c =
     let p = err_from_is_err_and c.from_residual.result c.from_residual.ensures.1 in
-    line_error as_file c.from_residual.result _ (aiger_reading c.args.bytes.now) p.0 c.in_err-counts.field-0.0 p.1 p.2 c.in_err-counts.ensures
+    line_error as_file c.from_residual.result _ (aag_reading c.args.bytes.now) p.0 c.in_err-counts.field-0.0 p.1 p.2 c.in_err-counts.ensures
     (λ f e. reading-header c.args.bytes.now c.in-Some.line.now c.in-Some.rest.now f c.in-Some.ensures.some e)
 
 pub returns-in_err-counts-clause-defined : goal.returns-in_err-counts-clause-defined
@@ -29,7 +29,7 @@ read_written-requires c = omega (arith, c.in-Some.ensures.some.shorter)
 pub returns-in_err-written-clause-read : goal.returns-in_err-written-clause-read
 returns-in_err-written-clause-read c =
     let p = err_from_is_err_and c.from_residual-in_err-written.result c.from_residual-in_err-written.ensures.1 in
-    line_error as_file c.from_residual-in_err-written.result _ (aiger_reading c.args.bytes.now) p.0 c.in_err-written.field-0.0 p.1 p.2 c.in_err-written.ensures.fault
+    line_error as_file c.from_residual-in_err-written.result _ (aag_reading c.args.bytes.now) p.0 c.in_err-written.field-0.0 p.1 p.2 c.in_err-written.ensures.fault
     (λ f e. reading-written c.args.bytes.now c.in-Some.line.now c.in-Some.rest.now (as_counts c.in_ok-counts.counts) f c.in-Some.ensures.some c.in_ok-counts.ensures e)
 
 pub returns-in_err-written-clause-defined : goal.returns-in_err-written-clause-defined
@@ -44,7 +44,7 @@ circuit_of-requires-clause-kept c = let w = c.in_ok-written.ensures.written in (
 pub returns-clause-read : goal.returns-clause-read
 returns-clause-read c =
     let w = c.in_ok-written.ensures.written in
-    reading-given (λ (z : WrittenText). KeepsWritten z c.in_ok-written.written) w.0 c.circuit_of.result (aiger_reading c.args.bytes.now) w.2
+    reading-given (λ (z : WrittenText). KeepsWritten z c.in_ok-written.written) w.0 c.circuit_of.result (aag_reading c.args.bytes.now) w.2
     (reading-file c.args.bytes.now c.in-Some.line.now c.in-Some.rest.now (as_counts c.in_ok-counts.counts) w.0 c.in-Some.ensures.some c.in_ok-counts.ensures w.1)
     c.circuit_of.ensures.file c.circuit_of.ensures.fault
 

@@ -13,6 +13,7 @@ mod TextSectionLemmas
 mod TextSymbolLemmas
 mod TextWrittenLemmas
 mod TextFileLemmas
+mod GroupsLemmas
 mod RoundTripLemmas
 mod UsedLemmas
 mod StrictLemmas

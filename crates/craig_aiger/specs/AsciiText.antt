@@ -2,11 +2,9 @@
 use Rattle.std.specs.Prelude.{ℕ, ◌+◌, ◌*◌, List, [], ◌∷◌, ◌++◌, length, codes, decimal}
 use Rattle.craig_aiger.specs.Layouts.{Layout}
 use Rattle.craig_aiger.specs.OutNames.{name_text}
-use Rattle.craig_aiger.specs.declared.form.Form.{Form}
-use Rattle.craig_aiger.specs.declared.form.Form.TheVariants.{Aag}
 use Rattle.craig_aiger.specs.declared.out_name.OutName.{OutName}
 
--- a line for each of the list, which are numbered from n on
+-- what is written for each of the list, a line or the numbers of a gate, where they are numbered from n on
 abbrev pub numbered_lines : {X : Type 0} → (ℕ → X → List ℕ) → ℕ → List X → List ℕ
 numbered_lines line n [] = []
 numbered_lines line n (x ∷ xs) = line n x ++ numbered_lines line (n + 1) xs
@@ -35,9 +33,13 @@ input_symbol place x = codes "i" ++ decimal place ++ codes " " ++ literal_line x
 abbrev pub output_symbol : ℕ → (OutName × ℕ) → List ℕ
 output_symbol place o = codes "o" ++ decimal place ++ codes " " ++ name_text o.0 ++ codes "\n"
 
--- the greatest variable, and the numbers of inputs, latches, outputs and gates
+-- a word, and behind it the greatest variable, and the numbers of inputs, latches, outputs and gates
+abbrev pub header : List ℕ → ℕ → ℕ → ℕ → List ℕ
+header word inputs outputs gates = word ++ decimal (inputs + gates) ++ codes " " ++ decimal inputs ++ codes " 0 " ++ decimal outputs ++ codes " " ++ literal_line gates
+
+-- the header of the ASCII form
 abbrev pub aag_header : ℕ → ℕ → ℕ → List ℕ
-aag_header inputs outputs gates = codes "aag " ++ decimal (inputs + gates) ++ codes " " ++ decimal inputs ++ codes " 0 " ++ decimal outputs ++ codes " " ++ literal_line gates
+aag_header inputs outputs gates = header (codes "aag ") inputs outputs gates
 
 -- the header, the inputs, the outputs, the gates, and the symbols
 abbrev pub aag_text : Layout → List ℕ
@@ -48,7 +50,3 @@ aag_text l =
     ++ numbered_lines gate_line (1 + length l.inputs) l.gates
     ++ numbered_lines input_symbol 0 l.inputs
     ++ numbered_lines output_symbol 0 l.outputs
-
--- the text of a layout in a form
-abbrev pub text_in : Form → Layout → List ℕ
-text_in Aag l = aag_text l

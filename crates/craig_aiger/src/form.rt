@@ -6,4 +6,6 @@
 pub enum Form {
     /// The ASCII form, whose first word is `aag`.
     Aag,
+    /// The binary form, whose first word is `aig`.
+    Aig,
 }

@@ -1,14 +1,18 @@
 //! The layout of the cones of some edges, and what is read of it and written.
 //!
-//! The form of the text is that of Biere, Heljanko and Wieringa, AIGER 1.9 and beyond, 2011.
+//! The forms of the texts are those of Biere, Heljanko and Wieringa, AIGER 1.9 and beyond, 2011.
 ghost use Rattle.std.specs.Prelude.{◌≡◌, ◌<◌, ◌++◌, ℕ, All, Contains, length, slice_get, Some, IfOk, IsOk, OnOk, OnErr};
 ghost use Rattle.craig_spec.specs.Circuit.{IsStrict};
 ghost use Rattle.craig_aig.specs.Cones.{cone};
 ghost use Rattle.craig_aiger.specs.Appending.{HasRoom};
-ghost use Rattle.craig_aiger.specs.AsciiText.{aag_text, text_in};
+ghost use Rattle.craig_aiger.specs.AsciiText.{aag_text};
+ghost use Rattle.craig_aiger.specs.BinaryText.{aig_text};
 ghost use Rattle.craig_aiger.specs.Layouts.{circuit_of, HasFunctions, IsLayout, IsWritable};
 ghost use Rattle.craig_aiger.specs.RoundTrip.{ReadsAs};
+ghost use Rattle.craig_aiger.specs.Texts.{text_in};
 
+use crate::binary_size::binary_text_size;
+use crate::binary_writing::append_binary_text;
 use crate::needed::needed_nodes;
 use crate::node_numbers::{number_nodes, numbered_gates, numbered_outputs};
 use crate::script_inputs::input_names;
@@ -131,6 +135,11 @@ impl Layout {
                 self.gates.as_slice(),
                 self.outputs.as_slice(),
             ),
+            Form::Aig => binary_text_size(
+                self.inputs.as_slice(),
+                self.gates.as_slice(),
+                self.outputs.as_slice(),
+            ),
         }
     }
 
@@ -149,6 +158,28 @@ impl Layout {
     {
         out.reserve(self.size_of(Form::Aag) as usize)?;
         append_text(
+            out,
+            self.inputs.as_slice(),
+            self.gates.as_slice(),
+            self.outputs.as_slice(),
+        );
+        Ok(())
+    }
+
+    /// Appends the binary text: a header line, a line for each output, for each gate two numbers in groups of
+    /// seven bits, and then the symbols of the ASCII text. The first number of a gate is its own literal less the
+    /// greater operand, and the second is that operand less the other. There are no comments.
+    /// No gate is written twice, and each input and gate is reached from an output. It takes memory only where
+    /// `out` has no room for the text, and once. After an error, for which only want of memory is a cause, `out` is
+    /// as before.
+    pub fn write_aig(&self, out: &mut Vec<u8>) -> Result<(), AllocError>
+        ensures text { OnOk result (out.new.items ≡ out.old.items ++ aig_text self.now) }
+        ensures room { HasRoom out.old (length (aig_text self.now)) → IsOk result }
+        ensures unchanged { OnErr result (out.new.items ≡ out.old.items) }
+        ensures strict { IsStrict (circuit_of self.now) }
+    {
+        out.reserve(self.size_of(Form::Aig) as usize)?;
+        append_binary_text(
             out,
             self.inputs.as_slice(),
             self.gates.as_slice(),

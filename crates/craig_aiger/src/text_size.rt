@@ -1,6 +1,7 @@
-//! The number of bytes of the text of a layout, counted without memory.
+//! The number of bytes of the ASCII text of a layout, counted without memory.
 ghost use Rattle.std.specs.Prelude.{◌≡◌, ◌+◌, ◌*◌, ◌<◌, ◌≤◌, ◌^◌, decimal, length};
 ghost use Rattle.craig_aiger.specs.AsciiText.{aag_header, aag_text, gate_line, input_line, input_symbol, literal_line, numbered_lines, output_line, output_symbol};
+ghost use Rattle.craig_aiger.specs.BinaryText.{aig_header};
 ghost use Rattle.craig_aiger.specs.OutNames.{family_text, name_text};
 
 use crate::{Family, OutName};
@@ -81,7 +82,7 @@ fn inputs_size(inputs: &[u32]) -> u64
 }
 
 /// The size of the lines of the outputs.
-fn outputs_size(outputs: &[(OutName, u64)]) -> u64
+pub(crate) fn outputs_size(outputs: &[(OutName, u64)]) -> u64
     requires { length outputs.now ≤ 2 ^ 40 }
     ensures value { result ≡ length (numbered_lines output_line 0 outputs.now) }
     ensures small { result ≤ 63 * length outputs.now }
@@ -108,7 +109,7 @@ fn gates_size(first: u64, gates: &[(u64, u64)]) -> u64
 }
 
 /// The size of the lines that name the inputs.
-fn input_symbols_size(inputs: &[u32]) -> u64
+pub(crate) fn input_symbols_size(inputs: &[u32]) -> u64
     requires { length inputs.now ≤ 2 ^ 40 }
     ensures value { result ≡ length (numbered_lines input_symbol 0 inputs.now) }
     ensures small { result ≤ 63 * length inputs.now }
@@ -121,7 +122,7 @@ fn input_symbols_size(inputs: &[u32]) -> u64
 }
 
 /// The size of the lines that name the outputs.
-fn output_symbols_size(outputs: &[(OutName, u64)]) -> u64
+pub(crate) fn output_symbols_size(outputs: &[(OutName, u64)]) -> u64
     requires { length outputs.now ≤ 2 ^ 40 }
     ensures value { result ≡ length (numbered_lines output_symbol 0 outputs.now) }
     ensures small { result ≤ 63 * length outputs.now }
@@ -133,10 +134,11 @@ fn output_symbols_size(outputs: &[(OutName, u64)]) -> u64
     size
 }
 
-/// The size of the header.
-fn header_size(inputs: u64, outputs: u64, gates: u64) -> u64
+/// The size of the header of either form.
+pub(crate) fn header_size(inputs: u64, outputs: u64, gates: u64) -> u64
     requires { inputs + gates < 2 ^ 63 }
-    ensures value { result ≡ length (aag_header inputs outputs gates) }
+    ensures ascii { result ≡ length (aag_header inputs outputs gates) }
+    ensures binary { result ≡ length (aig_header inputs outputs gates) }
     ensures small { result ≤ 126 }
 {
     4 + digits(inputs + gates) + 1 + digits(inputs) + 3 + digits(outputs) + 1 + literal_size(gates)

@@ -1,7 +1,7 @@
 //! The ASCII text of a layout, appended to a vector that has room for it.
 ghost use Rattle.std.specs.Prelude.{◌≡◌, ◌+◌, ◌*◌, ◌<◌, ◌≤◌, ◌^◌, ◌++◌, codes, decimal, length};
 ghost use Rattle.craig_aiger.specs.Appending.{HasRoom, IsAppended};
-ghost use Rattle.craig_aiger.specs.AsciiText.{aag_header, aag_text, gate_line, input_line, input_symbol, literal_line, numbered_lines, output_line, output_symbol};
+ghost use Rattle.craig_aiger.specs.AsciiText.{aag_text, gate_line, header, input_line, input_symbol, literal_line, numbered_lines, output_line, output_symbol};
 ghost use Rattle.craig_aiger.specs.OutNames.{family_text, name_text};
 
 use crate::{Family, OutName};
@@ -102,7 +102,7 @@ fn append_inputs(out: &mut Vec<u8>, inputs: &[u32])
 }
 
 /// The lines of the outputs.
-fn append_outputs(out: &mut Vec<u8>, outputs: &[(OutName, u64)])
+pub(crate) fn append_outputs(out: &mut Vec<u8>, outputs: &[(OutName, u64)])
     requires { HasRoom out.old (length (numbered_lines output_line 0 outputs.now)) }
     ensures { IsAppended out.old (numbered_lines output_line 0 outputs.now) out.new }
 {
@@ -123,7 +123,7 @@ fn append_gates(out: &mut Vec<u8>, first: u64, gates: &[(u64, u64)])
 }
 
 /// The lines that name the inputs.
-fn append_input_symbols(out: &mut Vec<u8>, inputs: &[u32])
+pub(crate) fn append_input_symbols(out: &mut Vec<u8>, inputs: &[u32])
     requires { HasRoom out.old (length (numbered_lines input_symbol 0 inputs.now)) }
     ensures { IsAppended out.old (numbered_lines input_symbol 0 inputs.now) out.new }
 {
@@ -133,7 +133,7 @@ fn append_input_symbols(out: &mut Vec<u8>, inputs: &[u32])
 }
 
 /// The lines that name the outputs.
-fn append_output_symbols(out: &mut Vec<u8>, outputs: &[(OutName, u64)])
+pub(crate) fn append_output_symbols(out: &mut Vec<u8>, outputs: &[(OutName, u64)])
     requires { HasRoom out.old (length (numbered_lines output_symbol 0 outputs.now)) }
     ensures { IsAppended out.old (numbered_lines output_symbol 0 outputs.now) out.new }
 {
@@ -142,13 +142,13 @@ fn append_output_symbols(out: &mut Vec<u8>, outputs: &[(OutName, u64)])
     }
 }
 
-/// The header: the greatest variable, and the numbers of inputs, latches, outputs and gates.
-fn append_header(out: &mut Vec<u8>, inputs: u64, outputs: u64, gates: u64)
+/// The header: the word of the form, the greatest variable, and the numbers of inputs, latches, outputs and gates.
+pub(crate) fn append_header(out: &mut Vec<u8>, word: &[u8], inputs: u64, outputs: u64, gates: u64)
     requires small { inputs + gates < 2 ^ 63 }
-    requires room { HasRoom out.old (length (aag_header inputs outputs gates)) }
-    ensures { IsAppended out.old (aag_header inputs outputs gates) out.new }
+    requires room { HasRoom out.old (length (header word.now inputs outputs gates)) }
+    ensures { IsAppended out.old (header word.now inputs outputs gates) out.new }
 {
-    append_bytes(out, b"aag ");
+    append_bytes(out, word);
     append_number(out, inputs + gates);
     append_bytes(out, b" ");
     append_number(out, inputs);
@@ -171,6 +171,7 @@ pub(crate) fn append_text(
 {
     append_header(
         out,
+        b"aag ",
         inputs.len() as u64,
         outputs.len() as u64,
         gates.len() as u64,

@@ -15,5 +15,9 @@ mod TextWrittenLemmas
 mod TextFileLemmas
 mod GroupsLemmas
 mod RoundTripLemmas
+mod BinaryLinesLemmas
+mod BinaryGatesLemmas
+mod BinaryTextLemmas
+mod BinaryRoundTripLemmas
 mod UsedLemmas
 mod StrictLemmas

@@ -49,15 +49,15 @@ variables_read symbols n (x ∷ xs) names h =
     let rest : all_read (map (λ (name : Option (List ℕ)). name >>? variable_in) (map (name_of symbols 105) (range_with_len (n + 1) (length xs)))) ≡ Some xs = variables_read symbols (n + 1) xs (λ i y e. let e1 : n + suc i ≡ (n + 1) + i = omega arith in rw e1 at (names (suc i) y e)) h.1 in
     rw (here, variable_in-decimal x h.0.0 h.0.1, rest) refl
 
-inputs_read : (symbols : List Symbol) (xs : List ℕ) → ((i x : ℕ) → slice_get xs i ≡ Some x → name_of symbols 105 i ≡ Some (decimal x)) → Each (λ x. (1 ≤ x) × (x ≤ 2147483647)) xs → IsStrictlyIncreasing xs → input_variables (names_of symbols 105 (length xs)) ≡ Some xs
+pub inputs_read : (symbols : List Symbol) (xs : List ℕ) → ((i x : ℕ) → slice_get xs i ≡ Some x → name_of symbols 105 i ≡ Some (decimal x)) → Each (λ x. (1 ≤ x) × (x ≤ 2147483647)) xs → IsStrictlyIncreasing xs → input_variables (names_of symbols 105 (length xs)) ≡ Some xs
 inputs_read symbols xs names h rising =
     rw (variables_read symbols 0 xs (λ i x e. let e0 : i ≡ 0 + i = omega arith in rw e0 at (names i x e)) h, all_apart xs (AllPairs-from_increasing xs rising)) refl
 
 -- the output of a circuit
-abbrev to_output : (ℕ → ℕ) → (OutName × ℕ) → Output
+abbrev pub to_output : (ℕ → ℕ) → (OutName × ℕ) → Output
 to_output place o = record { name = name_text o.0; literal = place o.1 }
 
-outputs_read : (renumbered place : ℕ → ℕ) (symbols : List Symbol) (n : ℕ) (roots : List RootLine) (xs : List (OutName × ℕ)) → literals_of roots ≡ map (λ (x : OutName × ℕ). x.1) xs → ((i : ℕ) (x : OutName × ℕ) → slice_get xs i ≡ Some x → name_of symbols 111 (n + i) ≡ Some (name_text x.0)) → Each (λ (x : OutName × ℕ). renumbered x.1 ≡ place x.1) xs →
+pub outputs_read : (renumbered place : ℕ → ℕ) (symbols : List Symbol) (n : ℕ) (roots : List RootLine) (xs : List (OutName × ℕ)) → literals_of roots ≡ map (λ (x : OutName × ℕ). x.1) xs → ((i : ℕ) (x : OutName × ℕ) → slice_get xs i ≡ Some x → name_of symbols 111 (n + i) ≡ Some (name_text x.0)) → Each (λ (x : OutName × ℕ). renumbered x.1 ≡ place x.1) xs →
     all_read (map named_output (named_roots renumbered symbols 111 n roots)) ≡ Some (map (to_output place) xs)
 outputs_read renumbered place symbols n [] [] e names h = refl
 outputs_read renumbered place symbols n [] (x ∷ xs) e names h = absurd cc
@@ -71,7 +71,7 @@ outputs_read renumbered place symbols n (r ∷ roots) (x ∷ xs) e names h =
     let rest : all_read (map named_output (named_roots renumbered symbols 111 (n + 1) roots)) ≡ Some (map (to_output place) xs) = outputs_read renumbered place symbols (n + 1) roots xs others (λ i y f. let e1 : n + suc i ≡ (n + 1) + i = omega arith in rw e1 at (names (suc i) y f)) h.1 in
     rw (here, literal, rest) refl
 
-header_test : (i a : ℕ) → nat_le (i + 0 + a) (i + a) ≡ true
+pub header_test : (i a : ℕ) → nat_le (i + 0 + a) (i + a) ≡ true
 header_test i a = grind (arith, nat_tests)
 
 -- the header is read
@@ -84,20 +84,20 @@ header_read line i o a bytes few few_outputs =
 read_through : (end : ℕ) (line : TextLine) (lines : List TextLine) (c : Counts) (w : Written) (f : AigerFile) → header_in line ≡ Ok c → written_in c end lines ≡ Ok w → file_written w ≡ Ok f → read_from end (line ∷ lines) ≡ Ok f
 read_through end line lines c w f header body file = rw (header, body, file) refl
 
-map_same : {X Y : Type 0} (f g : X → Y) (xs : List X) → Each (λ x. f x ≡ g x) xs → map f xs ≡ map g xs
+pub map_same : {X Y : Type 0} (f g : X → Y) (xs : List X) → Each (λ x. f x ≡ g x) xs → map f xs ≡ map g xs
 map_same f g [] h = refl
 map_same f g (x ∷ xs) h = ap (λ y. y ∷ map f xs) h.0 ∙ ap (λ l. g x ∷ l) (map_same f g xs h.1)
 
-each_then : {X : Type 0} (P Q : X → Type 0) (xs : List X) → ((x : X) → P x → Q x) → Each P xs → Each Q xs
+pub each_then : {X : Type 0} (P Q : X → Type 0) (xs : List X) → ((x : X) → P x → Q x) → Each P xs → Each Q xs
 each_then P Q [] f h = tt
 each_then P Q (x ∷ xs) f h = (f x h.0, each_then P Q xs f h.1)
 
-all_of_each : {X : Type 0} (P : X → Type 0) (xs : List X) → Each P xs → All P xs
+pub all_of_each : {X : Type 0} (P : X → Type 0) (xs : List X) → Each P xs → All P xs
 all_of_each P [] h k d within = absurd (omega arith)
 all_of_each P (x ∷ xs) h zero d within = h.0
 all_of_each P (x ∷ xs) h (suc k) d within = all_of_each P xs h.1 k d (omega arith)
 
-each_of_all : {X : Type 0} (P : X → Type 0) (xs : List X) → All P xs → Each P xs
+pub each_of_all : {X : Type 0} (P : X → Type 0) (xs : List X) → All P xs → Each P xs
 each_of_all P xs h = each_of P xs (λ i x e. subst P (get_or_from_slice_get xs i x x e) (h i x (slice_get_within xs i x e)))
 
 -- the literals of the constant and the inputs stay
@@ -105,16 +105,16 @@ moved_constant : (first : ℕ) (order : List ℕ) (n : ℕ) → n / 2 < first �
 moved_constant first order n below = let e : nat_lt (n / 2) first ≡ true = grind (arith, nat_tests, below) in rw e refl
 
 module _ (l : Layout) (h : IsWritable l) where
-  abbrev first : ℕ
+  abbrev pub first : ℕ
   first = 1 + length l.inputs
 
-  abbrev gates : List Gate
+  abbrev pub gates : List Gate
   gates = map to_gate l.gates
 
   gate_count : length gates ≡ length l.gates
   gate_count = length-map l.gates to_gate
 
-  in_order : InOrder first gates
+  pub in_order : InOrder first gates
   in_order j g e =
       let p = mapped to_gate l.gates j g e in
       let o = h.operands j p.0 p.1 in
@@ -131,7 +131,7 @@ module _ (l : Layout) (h : IsWritable l) where
   abbrev circuit : Circuit
   circuit = record { inputs = l.inputs; gates = moved_gates first gates order; outputs = map (to_output (moved first order)) l.outputs }
 
-  literals_within : Each (λ (o : OutName × ℕ). o.1 / 2 < first + length l.gates) l.outputs
+  pub literals_within : Each (λ (o : OutName × ℕ). o.1 / 2 < first + length l.gates) l.outputs
   literals_within = each_then (λ (o : OutName × ℕ). o.1 < 2 * (1 + length l.inputs + length l.gates)) (λ (o : OutName × ℕ). o.1 / 2 < first + length l.gates) l.outputs (λ o b. omega arith) (each_of_all (λ (o : OutName × ℕ). o.1 < 2 * (1 + length l.inputs + length l.gates)) l.outputs h.literals)
 
   operands_within : Each (Within (first + length l.gates)) l.gates

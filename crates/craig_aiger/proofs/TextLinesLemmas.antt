@@ -50,7 +50,7 @@ get_or-each_line bytes n (y ∷ xs) zero m x e is =
     ap (bytes n) same ∙ ap (λ j. bytes j x) k
 get_or-each_line bytes n (y ∷ xs) (suc i) m x e is = get_or-each_line bytes (n + 1) xs i m x e (omega arith)
 
-ended-lines : {X : Type 0} (line bytes : ℕ → X → List ℕ) (n : ℕ) (xs : List X) → ((m : ℕ) (x : X) → line m x ≡ bytes m x ++ 10 ∷ []) → numbered_lines line n xs ≡ ended (each_line bytes n xs)
+pub ended-lines : {X : Type 0} (line bytes : ℕ → X → List ℕ) (n : ℕ) (xs : List X) → ((m : ℕ) (x : X) → line m x ≡ bytes m x ++ 10 ∷ []) → numbered_lines line n xs ≡ ended (each_line bytes n xs)
 ended-lines line bytes n [] h = refl
 ended-lines line bytes n (x ∷ xs) h = ap (λ l. l ++ numbered_lines line (n + 1) xs) (h n x) ∙ append_assoc (bytes n x) (10 ∷ []) (numbered_lines line (n + 1) xs) ∙ ap (λ l. bytes n x ++ 10 ∷ l) (ended-lines line bytes (n + 1) xs h)
 
@@ -62,11 +62,11 @@ gate_line-is n g =
     append_assoc ((d ++ 32 ∷ []) ++ a) (32 ∷ []) (b ++ 10 ∷ []) ∙ append_assoc (d ++ 32 ∷ []) a (32 ∷ (b ++ 10 ∷ [])) ∙ append_assoc d (32 ∷ []) (a ++ 32 ∷ (b ++ 10 ∷ []))
     ∙ ap (λ l. d ++ 32 ∷ l) (sym (append_assoc a (32 ∷ b) (10 ∷ []))) ∙ sym (append_assoc d (32 ∷ (a ++ 32 ∷ b)) (10 ∷ []))
 
-input_symbol-is : (n x : ℕ) → input_symbol n x ≡ input_name_bytes n x ++ 10 ∷ []
+pub input_symbol-is : (n x : ℕ) → input_symbol n x ≡ input_name_bytes n x ++ 10 ∷ []
 input_symbol-is n x =
     ap (λ l. 105 ∷ l) (append_assoc (decimal n) (32 ∷ []) (decimal x ++ 10 ∷ []) ∙ sym (append_assoc (decimal n) (32 ∷ decimal x) (10 ∷ [])))
 
-output_symbol-is : (n : ℕ) (o : OutName × ℕ) → output_symbol n o ≡ output_name_bytes n o ++ 10 ∷ []
+pub output_symbol-is : (n : ℕ) (o : OutName × ℕ) → output_symbol n o ≡ output_name_bytes n o ++ 10 ∷ []
 output_symbol-is n o =
     ap (λ l. 111 ∷ l) (append_assoc (decimal n ++ 32 ∷ []) (name_text o.0) (10 ∷ []) ∙ append_assoc (decimal n) (32 ∷ []) (name_text o.0 ++ 10 ∷ []) ∙ sym (append_assoc (decimal n) (32 ∷ name_text o.0) (10 ∷ [])))
 
@@ -105,7 +105,7 @@ aag_text-lines l =
     ∙ ap (λ t. (header_bytes (length l.inputs) (length l.outputs) (length l.gates) ++ 10 ∷ []) ++ t) (cc (i, o, g, p, q, ended-five (each_line input_bytes 1 l.inputs) (each_line output_bytes 0 l.outputs) (each_line gate_bytes (1 + length l.inputs) l.gates) (each_line input_name_bytes 0 l.inputs) (each_line output_name_bytes 0 l.outputs)))
     ∙ append_assoc (header_bytes (length l.inputs) (length l.outputs) (length l.gates)) (10 ∷ []) (ended (body_lines l))
 
-are_lines : {X : Type 0} (bytes : ℕ → X → List ℕ) (n : ℕ) (xs : List X) → ((i : ℕ) (x : X) → slice_get xs i ≡ Some x → IsLine (bytes (n + i) x)) → AreLines (each_line bytes n xs)
+pub are_lines : {X : Type 0} (bytes : ℕ → X → List ℕ) (n : ℕ) (xs : List X) → ((i : ℕ) (x : X) → slice_get xs i ≡ Some x → IsLine (bytes (n + i) x)) → AreLines (each_line bytes n xs)
 are_lines bytes n [] h = tt
 are_lines bytes n (x ∷ xs) h =
     let e0 : n + 0 ≡ n = omega arith in
@@ -120,16 +120,17 @@ family_letter (Some McMillan) = refl
 family_letter (Some Pudlak) = refl
 family_letter (Some Inverse) = refl
 
-lacks-name : (o : OutName) → o.cut < 2 ^ 64 → Lacks 10 (name_text o)
+pub lacks-name : (o : OutName) → o.cut < 2 ^ 64 → Lacks 10 (name_text o)
 lacks-name o h = lacks-append 10 (family_text o.family) (decimal o.cut) (family_letter o.family) (lacks-decimal 10 o.cut refl h)
 
+pub lacks-header : (i o a : ℕ) → i + a < 2 ^ 64 → o < 2 ^ 64 → Lacks 10 (header_numbers i o a)
+lacks-header i o a h k =
+    lacks-append 10 (decimal (i + a)) (32 ∷ (decimal i ++ 32 ∷ (48 ∷ (32 ∷ (decimal o ++ 32 ∷ decimal a))))) (lacks-decimal 10 (i + a) refl h)
+    (lacks-append 10 (decimal i) (32 ∷ (48 ∷ (32 ∷ (decimal o ++ 32 ∷ decimal a)))) (lacks-decimal 10 i refl (omega arith))
+    (lacks-append 10 (decimal o) (32 ∷ decimal a) (lacks-decimal 10 o refl k) (lacks-decimal 10 a refl (omega arith))))
+
 IsLine-header : (i o a : ℕ) → i + a < 2 ^ 64 → o < 2 ^ 64 → IsLine (header_bytes i o a)
-IsLine-header i o a h k = record {
-  some = omega arith;
-  one = lacks-append 10 (decimal (i + a)) (32 ∷ (decimal i ++ 32 ∷ (48 ∷ (32 ∷ (decimal o ++ 32 ∷ decimal a))))) (lacks-decimal 10 (i + a) refl h)
-      (lacks-append 10 (decimal i) (32 ∷ (48 ∷ (32 ∷ (decimal o ++ 32 ∷ decimal a)))) (lacks-decimal 10 i refl (omega arith))
-      (lacks-append 10 (decimal o) (32 ∷ decimal a) (lacks-decimal 10 o refl k) (lacks-decimal 10 a refl (omega arith))));
-}
+IsLine-header i o a h k = record { some = omega arith; one = lacks-header i o a h k }
 
 IsLine-gate : (n : ℕ) (g : ℕ × ℕ) → 2 * n < 2 ^ 64 → g.0 < 2 ^ 64 → g.1 < 2 ^ 64 → IsLine (gate_bytes n g)
 IsLine-gate n g h l r = record {
@@ -137,19 +138,19 @@ IsLine-gate n g h l r = record {
   one = lacks-append 10 (decimal (2 * n)) (32 ∷ (decimal g.0 ++ 32 ∷ decimal g.1)) (lacks-decimal 10 (2 * n) refl h) (lacks-append 10 (decimal g.0) (32 ∷ decimal g.1) (lacks-decimal 10 g.0 refl l) (lacks-decimal 10 g.1 refl r));
 }
 
-IsLine-name : (letter n : ℕ) (name : List ℕ) → Lacks 10 (letter ∷ []) → n < 2 ^ 64 → Lacks 10 name → IsLine (letter ∷ (decimal n ++ 32 ∷ name))
+pub IsLine-name : (letter n : ℕ) (name : List ℕ) → Lacks 10 (letter ∷ []) → n < 2 ^ 64 → Lacks 10 name → IsLine (letter ∷ (decimal n ++ 32 ∷ name))
 IsLine-name letter n name plain h e = record {
   some = omega arith;
   one = lacks-append 10 (letter ∷ []) (decimal n ++ 32 ∷ name) plain (lacks-append 10 (decimal n) (32 ∷ name) (lacks-decimal 10 n refl h) e);
 }
 
-output_literal : (l : Layout) → IsWritable l → (i : ℕ) (o : OutName × ℕ) → slice_get l.outputs i ≡ Some o → o.1 < 2 * (1 + length l.inputs + length l.gates)
+pub output_literal : (l : Layout) → IsWritable l → (i : ℕ) (o : OutName × ℕ) → slice_get l.outputs i ≡ Some o → o.1 < 2 * (1 + length l.inputs + length l.gates)
 output_literal l h i o e = subst (λ (p : OutName × ℕ). p.1 < 2 * (1 + length l.inputs + length l.gates)) (get_or_from_slice_get l.outputs i o o e) (h.literals i o (slice_get_within l.outputs i o e))
 
-cut_small : (l : Layout) → IsWritable l → (i : ℕ) (o : OutName × ℕ) → slice_get l.outputs i ≡ Some o → o.0.cut < 2 ^ 32
+pub cut_small : (l : Layout) → IsWritable l → (i : ℕ) (o : OutName × ℕ) → slice_get l.outputs i ≡ Some o → o.0.cut < 2 ^ 32
 cut_small l h i o e = subst (λ (p : OutName × ℕ). p.0.cut < 2 ^ 32) (get_or_from_slice_get l.outputs i o o e) (h.cuts i o (slice_get_within l.outputs i o e))
 
-input_small : (l : Layout) → IsWritable l → (i x : ℕ) → slice_get l.inputs i ≡ Some x → x ≤ 2147483647
+pub input_small : (l : Layout) → IsWritable l → (i x : ℕ) → slice_get l.inputs i ≡ Some x → x ≤ 2147483647
 input_small l h i x e = subst (λ y. y ≤ 2147483647) (get_or_from_slice_get l.inputs i x x e) (h.variables i x (slice_get_within l.inputs i x e)).1
 
 gate_is_line : (l : Layout) → IsWritable l → (i : ℕ) (g : ℕ × ℕ) → slice_get l.gates i ≡ Some g → IsLine (gate_bytes (1 + length l.inputs + i) g)

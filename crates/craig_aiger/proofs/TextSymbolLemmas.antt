@@ -66,7 +66,7 @@ unfolding symbol_in
 symbol_read c before line letter n name bytes small counted new =
     ap (symbol_checked c before line.offset) (ap symbol_of bytes ∙ symbol_bytes letter n name small) ∙ (rw (counted, new) refl)
 
-no_ok : {A : Type 0} (f : Fault) (x : A) → ◌≡◌ {A = Result A Fault} (Err f) (Ok x) → ⊥
+pub no_ok : {A : Type 0} (f : Fault) (x : A) → ◌≡◌ {A = Result A Fault} (Err f) (Ok x) → ⊥
 no_ok f x e = cc
 
 read_one : {A : Type 0} (each : List A → TextLine → Result A Fault) (end a b : ℕ) (before all : List A) (line : TextLine) (lines after : List TextLine) (r : Result (List A × List TextLine) Fault) (o : Result A Fault) → each before line ≡ o → (o >>= λ x. read_lines each end a (before ++ x ∷ []) lines) ≡ Ok (all, after) →

@@ -149,7 +149,7 @@ pub AreLines-append : (ls bs : List (List ℕ)) → AreLines ls → AreLines bs 
 AreLines-append [] bs p q = q
 AreLines-append (a ∷ ls) bs p q = (p.0, AreLines-append ls bs p.1 q)
 
-without_end-cons : (b : List ℕ) (ps : List (List ℕ)) → 1 ≤ length b → without_empty_end (b ∷ ps) ≡ b ∷ without_empty_end ps
+pub without_end-cons : (b : List ℕ) (ps : List (List ℕ)) → 1 ≤ length b → without_empty_end (b ∷ ps) ≡ b ∷ without_empty_end ps
 without_end-cons [] ps h = absurd (omega arith)
 without_end-cons (c ∷ b) ps h = refl
 
@@ -157,7 +157,7 @@ pub pieces-ended : (bs : List (List ℕ)) → AreLines bs → without_empty_end 
 pieces-ended [] h = refl
 pieces-ended (b ∷ bs) h = ap without_empty_end (split_first 10 b (ended bs) h.0.one refl) ∙ without_end-cons b (slice_split (λ c. eqb c 10) (ended bs)) h.0.some ∙ ap (λ l. b ∷ l) (pieces-ended bs h.1)
 
-bytes-placed : (place : ℕ) (bs : List (List ℕ)) → map (λ (l : TextLine). l.bytes) (placed place bs) ≡ bs
+pub bytes-placed : (place : ℕ) (bs : List (List ℕ)) → map (λ (l : TextLine). l.bytes) (placed place bs) ≡ bs
 bytes-placed place [] = refl
 bytes-placed place (b ∷ bs) = ap (λ l. b ∷ l) (bytes-placed (place + length b + 1) bs)
 

@@ -41,7 +41,7 @@ module _ (l : Layout) (h : IsWritable l) where
   abbrev c : Counts
   c = counts I O A
 
-  output_within : (i : ℕ) (x : OutName × ℕ) → slice_get l.outputs i ≡ Some x → x.1 < 2 * (1 + (I + A))
+  pub output_within : (i : ℕ) (x : OutName × ℕ) → slice_get l.outputs i ≡ Some x → x.1 < 2 * (1 + (I + A))
   output_within i x e =
       let b : x.1 < 2 * (1 + I + A) = subst (λ (o : OutName × ℕ). o.1 < 2 * (1 + I + A)) (get_or_from_slice_get l.outputs i x x e) (h.literals i x (slice_get_within l.outputs i x e)) in
       omega (arith, b)

@@ -3,6 +3,7 @@ use Rattle.std.specs.Prelude.{◌≡◌, ℕ, ◌<◌, List, map, Some, slice_ge
 use Rattle.craig_spec.specs.Truth.{Assignment}
 use Rattle.craig_spec.specs.Circuit.{Circuit, IsCircuit, Output, circuit_cone, circuit_value}
 use Rattle.craig_spec.specs.AigerReading.{read_aag}
+use Rattle.craig_spec.specs.AigerBinary.{read_aig}
 use Rattle.craig_aiger.specs.declared.out_name.OutName.{OutName}
 use Rattle.craig_aiger.specs.Layouts.{Layout, circuit_of}
 use Rattle.craig_aiger.specs.OutNames.{name_text}
@@ -22,6 +23,10 @@ pub record SameCircuit (l : Layout) (c : Circuit) : Type 0 where
   -- one that is the literal 0 or 1 stays so
   pub constants : (j : ℕ) (o : OutName × ℕ) → slice_get l.outputs j ≡ Some o → o.1 < 2 → (p : Output) × (slice_get c.outputs j ≡ Some p) × (p.literal ≡ o.1)
 
--- the text is read as such a circuit
+-- the ASCII text is read as such a circuit
 abbrev pub ReadsAs : Layout → List ℕ → Type 0
 ReadsAs l text = (c : Circuit) × (read_aag text ≡ Some c) × SameCircuit l c
+
+-- the binary text is read as such a circuit
+abbrev pub ReadsAsBinary : Layout → List ℕ → Type 0
+ReadsAsBinary l text = (c : Circuit) × (read_aig text ≡ Some c) × SameCircuit l c

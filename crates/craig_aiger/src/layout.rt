@@ -8,7 +8,7 @@ ghost use Rattle.craig_aiger.specs.Appending.{HasRoom};
 ghost use Rattle.craig_aiger.specs.AsciiText.{aag_text};
 ghost use Rattle.craig_aiger.specs.BinaryText.{aig_text};
 ghost use Rattle.craig_aiger.specs.Layouts.{circuit_of, HasFunctions, IsLayout, IsWritable};
-ghost use Rattle.craig_aiger.specs.RoundTrip.{ReadsAs};
+ghost use Rattle.craig_aiger.specs.RoundTrip.{ReadsAs, ReadsAsBinary};
 ghost use Rattle.craig_aiger.specs.Texts.{text_in};
 
 use crate::binary_size::binary_text_size;
@@ -169,13 +169,15 @@ impl Layout {
     /// Appends the binary text: a header line, a line for each output, for each gate two numbers in groups of
     /// seven bits, and then the symbols of the ASCII text. The first number of a gate is its own literal less the
     /// greater operand, and the second is that operand less the other. There are no comments.
-    /// No gate is written twice, and each input and gate is reached from an output. It takes memory only where
-    /// `out` has no room for the text, and once. After an error, for which only want of memory is a cause, `out` is
-    /// as before.
+    /// The text is read back as a circuit whose outputs have, in order, the names, values and cones of the
+    /// layout's, and those that are 0 or 1 stay so. No gate is written twice, and each input and gate is reached
+    /// from an output. It takes memory only where `out` has no room for the text, and once. After an error, for
+    /// which only want of memory is a cause, `out` is as before.
     pub fn write_aig(&self, out: &mut Vec<u8>) -> Result<(), AllocError>
         ensures text { OnOk result (out.new.items ≡ out.old.items ++ aig_text self.now) }
         ensures room { HasRoom out.old (length (aig_text self.now)) → IsOk result }
         ensures unchanged { OnErr result (out.new.items ≡ out.old.items) }
+        ensures reads_back { ReadsAsBinary self.now (aig_text self.now) }
         ensures strict { IsStrict (circuit_of self.now) }
     {
         out.reserve(self.size_of(Form::Aig) as usize)?;

@@ -17,3 +17,7 @@ pub mod FailureLemmas
 pub mod FailedLemmas
 pub mod FlatLemmas
 pub mod LimitLemmas
+pub mod ForgottenLemmas
+pub mod ReasonLemmas
+pub mod ReducingLemmas
+mod TurnLemmas

@@ -1,9 +1,9 @@
 -- The lemmas of a search with a limit.
-use Rattle.std.proofs.Common.{◌≡◌, ◌≢◌, inl, inr, ℕ, zero, suc, ◌+◌, ◌-◌, ◌<◌, ◌≤◌, Bool, true, false, eqb, List, [], ◌∷◌, ◌++◌, length, get_or, Contains, Option, Some, None, refl, sym, ap, subst, ◌∙◌, arith, eqb-true}
+use Rattle.std.proofs.Common.{◌≡◌, ◌≢◌, inl, inr, ℕ, zero, suc, ◌+◌, ◌-◌, ◌<◌, Bool, true, false, List, [], ◌∷◌, ◌++◌, length, get_or, Contains, Option, Some, None, refl, sym, ap, subst, ◌∙◌, arith, eqb-true}
 use Rattle.std.specs.Option.{option_map}
 use Rattle.std.proofs.lemmas.Bool.{cases_lt, eqb-false}
 use Rattle.std.proofs.lemmas.List.{get_or_append_left, get_or-append_right, length_push}
-use Rattle.craig_spec.specs.Literal.{Literal, Clause, negation}
+use Rattle.craig_spec.specs.Literal.{Clause, negation}
 use Rattle.craig_spec.specs.Chain.{SameLiterals, Told}
 use Rattle.craig_spec.proofs.ClauseLemmas.{SameLiterals-refl, SameLiterals-sym, SameLiterals-trans, clause_value-same, occurs_in_clause-same}
 use Rattle.craig_base.specs.Arena.{ArenaView, ChangesOnly, FlaggedClause, OnlyReorders, clause_at, clauses_of}
@@ -14,7 +14,7 @@ use Rattle.craig_base.proofs.LookUpLemmas.{added-here, added-kept, flagged, held
 use Rattle.craig_base.proofs.ReorderLemmas.{GivesSame-reordered}
 use Rattle.craig_watch.specs.Held.{HeldView, IsConsistent, held_clause}
 use Rattle.craig_search.specs.Journal.{AreAtLimit, AreBelow, AreLearnt, IsListed}
-use Rattle.craig_search.specs.Searching.{IsSearching}
+use Rattle.craig_search.specs.Searching.{IsJournal, IsSearching}
 use Rattle.craig_search.specs.Verdict.{IsLimited}
 
 AreLearnt-start : (a : ArenaView) → AreLearnt a.given a []
@@ -92,21 +92,26 @@ AreAtLimit-listed (Some n) first a b c lemmas more met are next listed is =
     let same : length more ≡ n = eqb-true (length more) n (sym listed.1 ∙ is) in
     (subst (AreLearnt first b) (sym listed.0) (next are.0), some-other n (length more) (sym same))
 
+-- where the limit is met, nothing was let go
+pub limited-journal : (limit : Option ℕ) (lemmas : List Clause) (c : Clause) (more : List Clause) (met : Bool) (since start : ℕ) (a : ArenaView) → IsListed limit c lemmas more met → met ≡ true → ((n : ℕ) → limit ≡ Some n → since ≡ start) → IsJournal since a → IsJournal start a
+limited-journal None lemmas c more met since start a listed is whole journal = absurd (let no : false ≡ true = sym listed.1 ∙ is in cc)
+limited-journal (Some n) lemmas c more met since start a listed is whole journal = subst (λ (k : ℕ). IsJournal k a) (whole n refl) journal
+
 -- the lemmas that are listed meet the rule over the clauses of the start
-module _ (start now : HeldView) (before by_now : Option Told) (lemmas : List Clause) (ok : IsConsistent start) (fine : IsConsistent now) (search : IsSearching start now before by_now) (are : AreLearnt start.arena.given now.arena lemmas) where
+module _ (start now : HeldView) (before by_now : Option Told) (lemmas : List Clause) (ok : IsConsistent start) (fine : IsConsistent now) (search : IsSearching start now before by_now) (journal : IsJournal start.arena.given now.arena) (are : AreLearnt start.arena.given now.arena lemmas) where
   lemma-new : (k : ℕ) (d : Clause) → k < length lemmas → (c : Clause) → Contains (clauses_of start.arena) c → ContainsClause (get_or lemmas k d) c → ⊥
   lemma-new k d within c here contains =
       let p = are.each k d within in
       let id = literals_of-Contains start.arena c ok.arena here in
       let low : id.0 < start.arena.given = held-below start.arena id.0 c ok.arena id.1 in
       let q = search.kept id.0 c id.1 in
-      search.journal.new (start.arena.given + k) id.0 p.0 q.0 (omega arith) (omega arith) p.1 q.1 (λ l has. (p.2 l).0 (contains l ((q.2 l).1 has)))
+      journal.new (start.arena.given + k) id.0 p.0 q.0 (omega arith) (omega arith) p.1 q.1 (λ l has. (p.2 l).0 (contains l ((q.2 l).1 has)))
 
   lemma-different : (i j : ℕ) (d : Clause) → i < j → j < length lemmas → SameLiterals (get_or lemmas i d) (get_or lemmas j d) → ⊥
   lemma-different i j d first within same =
       let p = are.each i d (omega (arith, first, within)) in
       let q = are.each j d within in
-      search.journal.new (start.arena.given + j) (start.arena.given + i) q.0 p.0 (omega arith) (omega (arith, first)) q.1 p.1 (λ l has. (q.2 l).0 ((same l).0 ((p.2 l).1 has)))
+      journal.new (start.arena.given + j) (start.arena.given + i) q.0 p.0 (omega arith) (omega (arith, first)) q.1 p.1 (λ l has. (q.2 l).0 ((same l).0 ((p.2 l).1 has)))
 
   lemma-sound : (k : ℕ) (d : Clause) → k < length lemmas → IsTautology (get_or lemmas k d) → ⊥
   lemma-sound k d within (l, here, there) =

@@ -1,5 +1,6 @@
 -- The number that falls at each turn of a search.
-use Rattle.std.proofs.Common.{◌≡◌, ℕ, ◌+◌, ◌-◌, ◌*◌, ◌^◌, ◌<◌, ◌≤◌, [], ◌∷◌, ◌++◌, length, length-append, ap, subst, ◌∙◌, arith}
+use Rattle.std.proofs.Common.{◌≡◌, ℕ, ◌+◌, ◌-◌, ◌*◌, ◌^◌, ◌<◌, ◌≤◌, [], ◌∷◌, ◌++◌, length, length-append, ap, sym, subst, ◌∙◌, arith}
+use Rattle.std.proofs.Math.Nat.{mul-le-mul_right}
 use Rattle.std.proofs.lemmas.List.{length_push}
 use Rattle.craig_watch.specs.declared.trail_entry.TrailEntry.{TrailEntry}
 use Rattle.craig_watch.specs.Trail.{Trail}
@@ -34,6 +35,38 @@ pub turns-learnt : (first : ℕ) (old new : HeldView) → new.vars ≡ old.vars 
 turns-learnt first old new vars given low few =
     let more : new.arena.given - first ≡ (old.arena.given - first) + 1 = omega arith in
     rw vars (falls-learnt (3 ^ old.vars) (old.arena.given - first) (new.arena.given - first) old.vars (length old.trail) (length new.trail) more (subst (λ (n : ℕ). new.arena.given - first ≤ 3 ^ n) vars few))
+
+-- more than the turns that are left before a reduction
+abbrev pub turns_at_most : ℕ → ℕ
+turns_at_most vars = 3 ^ vars * (vars + 1) + vars + 1
+
+-- with the reductions that may come
+abbrev pub turns_with : ℕ → ℕ → HeldView → ℕ
+turns_with left since h = left * turns_at_most h.vars + turns since h
+
+few-left : (bound learnt vars assigned : ℕ) → turns_left bound learnt vars assigned < bound * (vars + 1) + vars + 1
+few-left bound learnt vars assigned =
+    let less : (bound - learnt) * (vars + 1) ≤ bound * (vars + 1) = mul-le-mul_right (vars + 1) (let le : bound - learnt ≤ bound = omega arith in le) in
+    omega arith
+
+pub turns-few : (since : ℕ) (h : HeldView) → turns since h < turns_at_most h.vars
+turns-few since h = few-left (3 ^ h.vars) (h.arena.given - since) h.vars (length h.trail)
+
+-- after a turn without a reduction
+pub falls-turn : (left since : ℕ) (old new : HeldView) → new.vars ≡ old.vars → turns since new < turns since old → turns_with left since new < turns_with left since old
+falls-turn left since old new vars less =
+    let same : left * turns_at_most new.vars ≡ left * turns_at_most old.vars = ap (λ (n : ℕ). left * turns_at_most n) vars in
+    omega (arith, same, less)
+
+falls-by : (left more m t u : ℕ) → left + 1 ≡ more → t < m → left * m + t < more * m + u
+falls-by left more m t u is less = rw (← is) (omega (arith, less))
+
+-- and after one with a reduction
+pub falls-reduced : (left more since later : ℕ) (old new : HeldView) → left + 1 ≡ more → new.vars ≡ old.vars → turns_with left later new < turns_with more since old
+falls-reduced left more since later old new is vars =
+    let few : turns later new < turns_at_most old.vars = subst (λ (n : ℕ). turns later new < turns_at_most n) vars (turns-few later new) in
+    let falls = falls-by left more (turns_at_most old.vars) (turns later new) (turns since old) is few in
+    subst (λ (n : ℕ). left * turns_at_most n + turns later new < turns_with more since old) (sym vars) falls
 
 -- a decision after propagation makes the trail longer
 pub longer-decided : (t u added : Trail) (v : Trail) (e : TrailEntry) → u ≡ t ++ added → v ≡ u ++ e ∷ [] → length t < length v

@@ -3,6 +3,7 @@ use Rattle.std.proofs.Common.{◌≡◌, ◌≢◌, ◌⊎◌, inl, inr, ℕ, �
 use Rattle.std.specs.Option.{is_some}
 use Rattle.std.proofs.lemmas.Bool.{cases_lt, or_left, or_right}
 use Rattle.craig_spec.specs.Literal.{Literal}
+use Rattle.craig_base.specs.Arena.{ArenaView}
 use Rattle.craig_watch.specs.declared.trail_entry.TrailEntry.{TrailEntry}
 use Rattle.craig_watch.specs.declared.value.Value.TheVariants.{Free}
 use Rattle.craig_watch.specs.Trail.{Trail, IsAssigned, entry_of, part_up_to, value_under}
@@ -30,6 +31,10 @@ assigned-last [] e = rw (eq-eqb e.literal.var e.literal.var refl) refl
 assigned-last (f ∷ t) e = some-cond (eqb f.literal.var e.literal.var) f (entry_of (t ++ e ∷ []) e.literal.var) (assigned-last t e)
 
 -- after the trail got longer
+-- whatever the clauses are
+pub IsReady-arena : (h : HeldView) (o : OrderView) (a : ArenaView) → IsReady h o → IsReady (record h { arena = a }) o
+IsReady-arena h o a ready = record { known = ready.known; given_back = ready.given_back }
+
 pub IsReady-longer : (old new : HeldView) (o : OrderView) (added : Trail) → IsReady old o → new.vars ≡ old.vars → new.trail ≡ old.trail ++ added → IsReady new o
 IsReady-longer old new o added ready vars trail = record {
   known = ready.known ∙ sym vars;

@@ -1,5 +1,5 @@
 -- What a search keeps, through each of its steps.
-use Rattle.std.proofs.Common.{◌≡◌, ◌+◌, ℕ, Option, Some, None, ap, ◌∙◌}
+use Rattle.std.proofs.Common.{◌≡◌, ℕ, Option, Some, None, ap, ◌∙◌}
 use Rattle.std.specs.Option.{option_map}
 use Rattle.craig_spec.specs.Literal.{Clause}
 use Rattle.craig_spec.specs.Chain.{GivesSame, Told}
@@ -9,9 +9,9 @@ use Rattle.craig_base.proofs.LookUpLemmas.{added-kept, flagged}
 use Rattle.craig_base.proofs.ReorderLemmas.{GivesSame-reordered}
 use Rattle.craig_watch.specs.Trail.{Trail}
 use Rattle.craig_watch.specs.Held.{HeldView, IsConsistent, IsLengthened, held_clause}
+use Rattle.craig_proof.specs.Covers.{IsCovering}
 use Rattle.craig_search.specs.Searching.{IsSearching}
 use Rattle.craig_search.proofs.LeavesLemmas.{Leaves-reordered, Leaves-start}
-use Rattle.craig_search.proofs.JournalLemmas.{IsJournal-reordered, IsJournal-start}
 use Rattle.craig_search.proofs.TellsLemmas.{TellsLearnt-start}
 
 -- what is held still after clauses changed the order of their literals
@@ -28,26 +28,30 @@ kept-learnt f a b id k c kept fresh only d is =
     let g = flagged (clause_at a k) p.0 p.1 in
     (p.0, ap (option_map (λ (h : FlaggedClause). h.literals)) (added-kept a b id c fresh only k g.0 g.1) ∙ ap (λ (e : Clause). Some e) g.2, p.2)
 
-pub IsSearching-start : (h : HeldView) (told : Option Told) → IsConsistent h → IsSearching h h told told
-IsSearching-start h told ok = record {
+pub IsSearching-start : (h : HeldView) (told : Option Told) → IsConsistent h → IsCovering told (held_clause h.arena) h.arena.given → IsSearching h h told told
+IsSearching-start h told ok covers = record {
+  lent = ok.arena;
+  covered = covers;
   leaves = Leaves-start h ok;
   kept = λ id c is. (c, is, SameLiterals-refl c);
-  journal = IsJournal-start h.arena ok.arena;
   tells = TellsLearnt-start h told;
 }
 
 -- after propagation
 pub IsSearching-lengthened : (start old new : HeldView) (before by_now : Option Told) → IsSearching start old before by_now → IsLengthened old new → IsSearching start new before by_now
 IsSearching-lengthened start old new before by_now search longer = record {
+  lent = search.lent;
+  covered = search.covered;
   leaves = Leaves-reordered start old new search.leaves longer.clauses longer.vars longer.dead;
   kept = λ id. kept-reordered (held_clause start.arena) old.arena new.arena id (search.kept id) longer.clauses;
-  journal = IsJournal-reordered start.arena.given old.arena new.arena search.journal longer.clauses;
   tells = search.tells;
 }
 
 -- after a change of the trail alone
 pub IsSearching-moved : (start old : HeldView) (before by_now : Option Told) (t : Trail) (level : ℕ) → IsSearching start old before by_now → IsSearching start (record old { trail = t; level = level }) before by_now
 IsSearching-moved start old before by_now t level search = record {
+  lent = search.lent;
+  covered = search.covered;
   leaves = record {
     vars = search.leaves.vars;
     dead = search.leaves.dead;
@@ -59,6 +63,5 @@ IsSearching-moved start old before by_now t level search = record {
     variables = search.leaves.variables;
   };
   kept = search.kept;
-  journal = search.journal;
   tells = search.tells;
 }

@@ -8,3 +8,4 @@ pub mod Levels
 pub mod LawsOfTelling
 pub mod Failing
 pub mod Journal
+pub mod Reducing

@@ -2,7 +2,7 @@
 use Rattle.std.specs.Prelude.{◌≡◌, ℕ, ◌<◌, ◌≤◌, true, false, List, [], Option, Some, None, length}
 use Rattle.craig_spec.specs.Literal.{Clause}
 use Rattle.craig_spec.specs.Chain.{ChainOk, GivesSame, Told}
-use Rattle.craig_base.specs.Arena.{ArenaView, with_clause, with_id}
+use Rattle.craig_base.specs.Arena.{ArenaView, IsArena, with_clause, with_id}
 use Rattle.craig_base.specs.LemmaRule.{ContainsClause}
 use Rattle.craig_watch.specs.Held.{HeldView, IsConsistent, held_clause}
 use Rattle.craig_proof.specs.Covers.{IsCovering}
@@ -22,12 +22,16 @@ use Rattle.craig_search.specs.Tells.{Tells}
 abbrev pub IsNew : ArenaView → Clause → Type 0
 IsNew a c = (id : ℕ) (d : Clause) → held_clause a id ≡ Some d → ¬ ContainsClause c d
 
--- the clauses that are held under the ids from the first on, which a search has learnt
+-- the clauses that are held under the ids from the first on, which a search has learnt and not let go
 pub record IsJournal (first : ℕ) (a : ArenaView) : Type 0 where
   -- there is one under each id
   pub stand : (id : ℕ) → first ≤ id → id < a.given → (c : Clause) × (held_clause a id ≡ Some c)
   -- it contains no clause of a lower id
   pub new : (id other : ℕ) (c d : Clause) → first ≤ id → other < id → held_clause a id ≡ Some c → held_clause a other ≡ Some d → ¬ ContainsClause c d
+
+-- what is held under the ids from any one on, none of it containing a held clause of a lower id, is so still
+abbrev pub KeepsJournals : HeldView → HeldView → Type 0
+KeepsJournals old new = (first : ℕ) → IsJournal first old.arena → IsJournal first new.arena
 
 -- the arena with the learnt clause under the next id
 abbrev pub with_learnt : ArenaView → Learnt → ArenaView
@@ -39,18 +43,24 @@ TellsLearnt start before after = (t u : Told) → before ≡ Some t → after �
 
 -- what a search has done from its start until now, where the tracer was told this before and that by now
 pub record IsSearching (start now : HeldView) (before by_now : Option Told) : Type 0 where
+  -- the clauses of the start were stored by rising ids
+  pub lent : IsArena start.arena
+  -- a tracer that tells its meaning covered them
+  pub covered : IsCovering before (held_clause start.arena) start.arena.given
   -- the clauses that it leaves
   pub leaves : Leaves start now
   -- each clause that was held at the start is held still
   pub kept : (id : ℕ) → GivesSame (held_clause start.arena) (held_clause now.arena) id
-  -- the clauses that it has learnt
-  pub journal : IsJournal start.arena.given now.arena
   -- what it has told
   pub tells : TellsLearnt start before by_now
 
 -- a step of a search, whatever its start was
 abbrev pub GoesOn : HeldView → HeldView → Option Told → Option Told → Type 0
 GoesOn old new told_old told_new = (start : HeldView) (before : Option Told) → IsSearching start old before told_old → IsSearching start new before told_new
+
+-- a step that lets clauses go under ids from the first on, of a search whose start gave no such id
+abbrev pub GoesOnSince : ℕ → HeldView → HeldView → Option Told → Option Told → Type 0
+GoesOnSince first old new told_old told_new = (start : HeldView) (before : Option Told) → start.arena.given ≤ first → IsSearching start old before told_old → IsSearching start new before told_new
 
 -- what is true at each turn of a search
 pub record IsUnderWay (h : HeldView) (o : OrderView) (told : Option Told) : Type 0 where
@@ -85,7 +95,7 @@ EndsWith assumptions start end o before after (Refuted root) =
     (last : HeldView) × (by_then : Option Told) × IsSearching start last before by_then × TellsEmptyClause last end root.0 by_then after × (last.level ≡ 0) × IsReady last o
 EndsWith assumptions start end o before after (Failed l) =
     IsSearching start end before after × IsReady end o × IsFalse end.trail l × IsAssumed assumptions l × AreAllAssumed assumptions end.trail
-EndsWith assumptions start end o before after Limited = IsSearching start end before after × IsReady end o
+EndsWith assumptions start end o before after Limited = IsSearching start end before after × IsReady end o × IsJournal start.arena.given end.arena
 
 -- what the turns of a search leave
 pub record IsOutcome (assumptions : Assumptions) (start end : HeldView) (o : OrderView) (before after : Option Told) (outcome : Outcome) : Type 0 where

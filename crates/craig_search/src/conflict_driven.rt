@@ -11,6 +11,8 @@ use crate::going_back::go_back;
 use crate::learning::learn;
 use crate::listing::list_lemma;
 use crate::outcome::Outcome;
+use crate::reducing::reduce_if_due;
+use crate::reductions::Reductions;
 use crate::refuting::refuted;
 use crate::restarting::restart_if_due;
 use crate::{Journal, Places, Verdict};
@@ -32,6 +34,8 @@ use std::alloc::{AllocError, Global};
 ///
 /// An `AllocError` comes only for want of memory. After it nothing is promised of what was lent but that its calls are
 /// safe, and that the same variables are known. Clauses whose memory was refused before are not searched.
+///
+/// Without a limit a search lets some of the clauses go that it learnt itself, and the tracer forgets their ids.
 ///
 /// Assumptions are decided in their order, each at a level of its own, and none that is true already. One that is false
 /// ends the search.
@@ -118,6 +122,7 @@ fn run<T: Tracer>(
     craig_watch::laws::levels_rise();
     craig_base::laws::no_longer_list();
     let mut pace = Pace::new();
+    let mut reductions = Reductions::new(held.arena().given());
     let mut place = 0;
     loop {
         match held.propagate()? {
@@ -139,6 +144,7 @@ fn run<T: Tracer>(
                     return Ok(Outcome::Limited);
                 }
                 restart_if_due(held, order, &mut pace, assumptions);
+                reduce_if_due(held, tracer, &mut pace, &mut reductions, limit);
                 place = 0;
             }
         }

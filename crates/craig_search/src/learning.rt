@@ -5,7 +5,7 @@ ghost use Rattle.craig_watch.specs.Held.{IsConsistent, IsFalsified, MayBeHeld, h
 ghost use Rattle.craig_proof.specs.Covers.{IsCovering};
 ghost use Rattle.craig_analyze.specs.Learnt.{IsDerived};
 ghost use Rattle.craig_search.specs.Journal.{LearnsNext};
-ghost use Rattle.craig_search.specs.Searching.{GoesOn, IsNew, IsUnderWay, with_learnt};
+ghost use Rattle.craig_search.specs.Searching.{GoesOn, IsNew, KeepsJournals, IsUnderWay, with_learnt};
 
 use crate::going_back::go_back;
 use craig_analyze::{Analysis, Learnt};
@@ -29,6 +29,7 @@ pub(crate) fn learn<T: Tracer>(
     requires conflict { IsFalsified held.old conflict.0 }
     requires under_way { IsUnderWay held.old order.old (T.told tracer.old) }
     ensures goes_on { OnOk result (GoesOn held.old held.new (T.told tracer.old) (T.told tracer.new)) }
+    ensures journals { OnOk result (KeepsJournals held.old held.new) }
     ensures given { OnOk result (held.new.arena.given ≡ held.old.arena.given + 1) }
     ensures listed { IfOk result (λ learnt. LearnsNext held.old held.new learnt.lits) }
     ensures under_way { OnOk result (IsUnderWay held.new order.new (T.told tracer.new)) }
@@ -75,6 +76,7 @@ fn hold_learnt<T: Tracer>(
     requires new { IsNew held.old.arena learnt.now.lits }
     requires covers { IsCovering (T.told tracer.old) (held_clause held.old.arena) held.old.arena.given }
     ensures goes_on { OnOk result (GoesOn held.old held.new (T.told tracer.old) (T.told tracer.new)) }
+    ensures journals { OnOk result (KeepsJournals held.old held.new) }
     ensures listed { OnOk result (LearnsNext held.old held.new learnt.now.lits) }
     ensures vars { held.new.vars ≡ held.old.vars }
     ensures held { OnOk result (held.new ≡ record held.old { arena = with_learnt held.old.arena learnt.now }) }

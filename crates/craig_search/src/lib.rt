@@ -2,10 +2,12 @@
 //!
 //! After Marques-Silva and Sakallah, "GRASP", IEEE Transactions on Computers 48, 1999, and Eén and Sörensson, "An
 //! Extensible SAT-solver", SAT 2003: unit propagation, a decision where nothing is forced, and a learnt clause and a
-//! jump back where a clause is false. Right after a learnt clause it may restart. A search ends, since no learnt clause
-//! contains a held one, and over `v` variables there are at most `3^v` such clauses.
+//! jump back where a clause is false. Right after a learnt clause it may restart, and let learnt clauses go. A search
+//! ends, since no learnt clause contains a held one, over `v` variables there are at most `3^v` such clauses, and clauses
+//! are let go a bounded number of times.
 #![tactic(auto)]
 
+mod bar;
 mod conflict_driven;
 mod deciding;
 mod failing;
@@ -16,6 +18,8 @@ mod learning;
 mod listing;
 mod outcome;
 mod places;
+mod reducing;
+mod reductions;
 mod refuting;
 mod restarting;
 mod verdict;

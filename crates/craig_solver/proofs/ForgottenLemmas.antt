@@ -11,7 +11,8 @@ use Rattle.craig_proof.proofs.ToldLemmas.{clause_told-forgotten}
 use Rattle.craig_watch.specs.Held.{held_clause}
 use Rattle.craig_solver.specs.State.{AreOriginals, IsLastUnit, IsState, RestOnAccepted, StateView}
 use Rattle.craig_solver.proofs.RestLemmas.{RestOnAccepted-forgotten}
-use Rattle.craig_solver.proofs.ToldLemmas.{AreAllTold-forgotten, AreOriginals-forgotten, IsUnforgotten-other}
+use Rattle.craig_search.proofs.ForgottenLemmas.{IsUnforgotten-other}
+use Rattle.craig_solver.proofs.ToldLemmas.{AreAllTold-forgotten, AreOriginals-forgotten}
 
 covers-forgotten : (before after : Option Told) (f : ℕ → Option Clause) (given id : ℕ) → IsCovering before f given → after ≡ option_map (without_id id) before → ForSome before (λ t. f id ≡ None) → IsCovering after f given
 covers-forgotten None after f given id covers is none = λ u at. absurd (let no : None ≡ Some u = sym is ∙ at in cc)

@@ -26,7 +26,8 @@ use Rattle.craig_solver.specs.State.{AreHeldFor, AreHeldIds, AreUnitsOf, RestOnA
 use Rattle.craig_solver.proofs.AcceptedLemmas.{IsModel-fewer, IsModel-last, Occurs-last, Occurs-more}
 use Rattle.craig_solver.proofs.ListLemmas.{map-alike}
 use Rattle.craig_solver.proofs.RestLemmas.{RestOnAccepted-more, RestOnAccepted-original}
-use Rattle.craig_solver.proofs.ToldLemmas.{AreOriginals-more, AreOriginals-original, AreAllTold-original, AreAllTold-tautology, unforgotten-below}
+use Rattle.craig_search.proofs.ForgottenLemmas.{unforgotten-below}
+use Rattle.craig_solver.proofs.ToldLemmas.{AreOriginals-more, AreOriginals-original, AreAllTold-original, AreAllTold-tautology}
 
 -- a tautology is accepted, and nothing else changes
 pub IsState-tautology : (s : StateView) (part : Part) (c : Clause) → IsState s → IsTautology c → All (λ (l : Literal). l.var < s.held.vars) c → IsState (accepting part c s)

@@ -19,7 +19,8 @@ use Rattle.craig_search.specs.Leaves.{Leaves}
 use Rattle.craig_search.specs.Tells.{Tells, WasTold}
 use Rattle.craig_solver.specs.State.{RestOnAccepted}
 use Rattle.craig_solver.specs.Told.{IsAcceptedStep}
-use Rattle.craig_solver.proofs.ToldLemmas.{IsAcceptedStep-more, IsAcceptedStep-same, forgotten-step, told-below, told-original}
+use Rattle.craig_search.proofs.ForgottenLemmas.{forgotten-step, told-below}
+use Rattle.craig_solver.proofs.ToldLemmas.{IsAcceptedStep-more, IsAcceptedStep-same, told-original}
 
 pub RestOnAccepted-more : (xs : List (Part × Clause)) (p : Part × Clause) (a : ArenaView) (t : Told) → RestOnAccepted xs a t → RestOnAccepted (xs ++ p ∷ []) a t
 RestOnAccepted-more xs p a t rest = record {

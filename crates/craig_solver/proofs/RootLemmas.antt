@@ -18,7 +18,8 @@ use Rattle.craig_solver.specs.State.{AreOriginals, IsState, StateView, root_numb
 use Rattle.craig_solver.specs.Told.{AreAllAccepted, IsToldOf}
 use Rattle.craig_proof.proofs.AppendsLemmas.{before_forgotten, told_before}
 use Rattle.craig_proof.proofs.PartLemmas.{IsUnforgotten-step, unforgotten_step}
-use Rattle.craig_solver.proofs.ToldLemmas.{AreAccepted-originals, AreAllAccepted-originals, unforgotten-below}
+use Rattle.craig_search.proofs.ForgottenLemmas.{unforgotten-below}
+use Rattle.craig_solver.proofs.ToldLemmas.{AreAccepted-originals, AreAllAccepted-originals}
 
 -- the root that a solver keeps is that of its answer
 root_of-cases : (h : HeldView) (v : Verdict) (a : Answer) → IsAnswerFor h v a → root_number (root_of_verdict v) ≡ root_of_answer a

@@ -1,20 +1,17 @@
 -- The originals that a tracer was told.
-use Rattle.std.proofs.Common.{◌≡◌, ◌≢◌, inl, inr, ℕ, ◌<◌, ◌≤◌, Bool, true, false, cond, not, ◌&&◌, eqb, List, [], ◌∷◌, ◌++◌, Contains, Option, Some, None, refl, sym, ap, subst, ◌∙◌, arith, eqb-true, ne_eqb}
+use Rattle.std.proofs.Common.{◌≡◌, ◌≢◌, inl, inr, ℕ, not, List, [], ◌∷◌, ◌++◌, Contains, Option, Some, None, refl, sym, ap, subst, ◌∙◌}
 use Rattle.std.specs.Option.{ForSome, option_map}
-use Rattle.std.proofs.lemmas.Bool.{and_parts, eqb-false}
-use Rattle.std.proofs.lemmas.List.Elements.{All-contains, Contains-append_left, Contains-push, Contains-push_cases}
+use Rattle.std.proofs.lemmas.List.Elements.{Contains-append_left, Contains-push, Contains-push_cases}
 use Rattle.craig_spec.specs.Literal.{Clause}
-use Rattle.craig_spec.specs.Chain.{SameLiterals, Told, ToldStep, IsUnforgotten, forgotten_at, with_step, without_id}
+use Rattle.craig_spec.specs.Chain.{SameLiterals, Told, ToldStep, with_step, without_id}
 use Rattle.craig_spec.specs.Needed.{IsOriginal}
-use Rattle.craig_spec.proofs.MemberLemmas.{Contains-from_image, Contains-image, list_any-find}
 use Rattle.craig_base.specs.Clauses.{IsNormal, IsTautology}
 use Rattle.craig_base.specs.declared.clause_id.ClauseId.{ClauseId}
 use Rattle.craig_base.specs.declared.script_part.Part.{Part}
-use Rattle.craig_proof.specs.Covers.{Covers}
 use Rattle.craig_proof.specs.Tracer.{Appends, original_step}
 use Rattle.craig_search.specs.Tells.{IsStillTold}
+use Rattle.craig_search.proofs.ForgottenLemmas.{forgotten-step, forgotten-still}
 use Rattle.craig_proof.proofs.AppendsLemmas.{before_step}
-use Rattle.craig_proof.proofs.PartLemmas.{IsUnforgotten-step, unforgotten_step}
 use Rattle.craig_solver.specs.State.{AreOriginals, IsLastUnit}
 use Rattle.craig_solver.specs.Told.{AreAccepted, AreAllAccepted, AreAllTold, IsAcceptedStep, IsClauseTold}
 
@@ -66,44 +63,6 @@ AreOriginals-original xs part written literals id root units before after all ap
       | inr last ↦ inl (subst (IsAcceptedStep (xs ++ (part, written) ∷ [])) last (told-original xs part written literals id same normal))
     ]
 
--- every step was told before the next id
-pub told-below : (t : Told) (f : ℕ → Option Clause) (given : ℕ) (s : ToldStep) → Covers t f given → Contains t.steps s → s.id < given
-told-below t f given s covers here =
-    let g = All-contains (λ (r : ToldStep). (n : ℕ) × (t.greatest ≡ Some n) × (r.id ≤ n)) t.steps s covers.stand.greatest here in
-    let low : g.0 < given = covers.next g.0 g.1 in
-    omega (arith, low, g.2)
-
--- what isn't forgotten was told before the next id
-pub unforgotten-below : (t : Told) (f : ℕ → Option Clause) (given id : ℕ) → Covers t f given → IsUnforgotten t.steps id → id < given
-unforgotten-below t f given id covers kept =
-    let m = list_any-find (λ (r : ToldStep). eqb r.id id && not r.forgotten) t.steps kept in
-    let same : m.0.id ≡ id = eqb-true m.0.id id (and_parts _ _ m.2).0 in
-    subst (λ (n : ℕ). n < given) same (told-below t f given m.0 covers m.1)
-
-forgotten-cases : (b : Bool) (s : ToldStep) → ((cond b (record { id = s.id; literals = s.literals; origin = s.origin; forgotten = true }) s).origin ≡ s.origin) × ((cond b (record { id = s.id; literals = s.literals; origin = s.origin; forgotten = true }) s).literals ≡ s.literals)
-forgotten-cases true s = (refl, refl)
-forgotten-cases false s = (refl, refl)
-
-stays-cases : (b : Bool) (id : ℕ) (s : ToldStep) → eqb s.id id ≡ b → ((cond b (record { id = s.id; literals = s.literals; origin = s.origin; forgotten = true }) s).id ≡ s.id) × ((cond b (record { id = s.id; literals = s.literals; origin = s.origin; forgotten = true }) s).forgotten ≡ false → (s.forgotten ≡ false) × (s.id ≢ id))
-stays-cases true id s is = (refl, λ no. absurd (let odd : true ≡ false = no in cc))
-stays-cases false id s is = (refl, λ stays. (stays, eqb-false s.id id is))
-
--- the step that it was before an id was forgotten
-pub forgotten-step : (t : Told) (id : ℕ) (s : ToldStep) → Contains (without_id id t).steps s → (m : ToldStep) × Contains t.steps m × (s.id ≡ m.id) × (s.literals ≡ m.literals) × (s.origin ≡ m.origin) × (s.forgotten ≡ false → (m.forgotten ≡ false) × (m.id ≢ id))
-forgotten-step t id s here =
-    let m = Contains-from_image (forgotten_at id) t.steps s here in
-    let kept = forgotten-cases (eqb m.0.id id) m.0 in
-    let stays = stays-cases (eqb m.0.id id) id m.0 refl in
-    (m.0, m.1, ap (λ (r : ToldStep). r.id) m.2 ∙ stays.0, ap (λ (r : ToldStep). r.literals) m.2 ∙ kept.1, ap (λ (r : ToldStep). r.origin) m.2 ∙ kept.0, λ not. stays.1 (sym (ap (λ (r : ToldStep). r.forgotten) m.2) ∙ not))
-
--- what isn't forgotten stays so when another id is
-pub IsUnforgotten-other : (t : Told) (id x : ℕ) → x ≢ id → IsUnforgotten t.steps x → IsUnforgotten (without_id id t).steps x
-IsUnforgotten-other t id x other kept =
-    let m = unforgotten_step t.steps x kept in
-    let stays : forgotten_at id m.0 ≡ m.0 = ap (λ (b : Bool). cond b (record { id = m.0.id; literals = m.0.literals; origin = m.0.origin; forgotten = true }) m.0) (ne_eqb m.0.id id (λ e. other (sym m.2 ∙ e))) in
-    let here : Contains (without_id id t).steps m.0 = subst (Contains (without_id id t).steps) stays (Contains-image (forgotten_at id) t.steps m.0 m.1) in
-    subst (IsUnforgotten (without_id id t).steps) m.2 (IsUnforgotten-step (without_id id t).steps m.0 here m.3)
-
 -- after a unit is forgotten, or the root when no unit is left
 pub AreOriginals-forgotten : (xs : List (Part × Clause)) (id : ℕ) (old_root root : Option ClauseId) (old_units units : ℕ) (t : Told) → ((x : ℕ) → x ≢ id → IsLastUnit old_root old_units x → IsLastUnit root units x) → AreOriginals xs old_root old_units t → AreOriginals xs root units (without_id id t)
 AreOriginals-forgotten xs id old_root root old_units units t fewer all s here original =
@@ -154,8 +113,8 @@ AreAllTold-forgotten xs id (Some t) after all is u at = λ p here not.
     let same : Some u ≡ Some (without_id id t) = sym at ∙ is in
     let told : u ≡ without_id id t = cc in
     let s = all t refl p here not in
-    let kept = forgotten-cases (eqb s.0.id id) s.0 in
-    subst (λ (v : Told). IsClauseTold v p) (sym told) (forgotten_at id s.0, Contains-image (forgotten_at id) t.steps s.0 s.1, kept.0 ∙ s.2, subst (SameLiterals p.1) (sym kept.1) s.3)
+    let m = forgotten-still t id s.0 s.1 in
+    subst (λ (v : Told). IsClauseTold v p) (sym told) (m.0, m.1, m.4 ∙ s.2, subst (SameLiterals p.1) (sym m.3) s.3)
 
 -- and after a search, whose tracer tells each step still
 pub AreAllTold-still : (xs : List (Part × Clause)) (t u : Told) → AreAllTold xs t → ((s : ToldStep) → Contains t.steps s → IsStillTold u s) → AreAllTold xs u

@@ -1,12 +1,12 @@
-use Rattle.std.proofs.Common.{◌≡◌, ◌≤◌, length}
+use Rattle.std.proofs.Common.{◌≡◌, ℕ, ◌≤◌, length, Some}
 use Rattle.std.specs.Option.{is_some}
 use Rattle.craig_watch.specs.Held.{held_clause}
 use Rattle.craig_proof.specs.Covers.{IsCovering}
 use Rattle.craig_search.specs.Assuming.{AreDecided, AreTrueBefore}
 use Rattle.craig_search.specs.Journal.{AreBelow}
 use Rattle.craig_search.specs.Leaves.{IsReady}
-use Rattle.craig_search.specs.Searching.{IsSearching}
-use Rattle.craig_search.proofs.MeasureLemmas.{turns}
+use Rattle.craig_search.specs.Searching.{IsJournal, IsSearching}
+use Rattle.craig_search.proofs.MeasureLemmas.{turns_with}
 use Rattle.craig_search.proofs.conflict_driven.run.Given as goal
 
 abbrev pub invariant-loop-held : goal.invariant-loop-held
@@ -21,7 +21,12 @@ invariant-loop-held g l = record {
   decided : AreDecided l.assumptions l.held.trail;
   before : AreTrueBefore l.held.trail l.assumptions l.place;
   listed : AreBelow l.limit l.initial.held.arena.given l.held.arena l.journal;
+  journal : IsJournal l.reductions.since l.held.arena;
+  first : l.reductions.first ≡ l.initial.held.arena.given;
+  later : l.initial.held.arena.given ≤ l.reductions.since;
+  given : l.reductions.since ≤ l.held.arena.given;
+  whole : (n : ℕ) → l.limit ≡ Some n → l.reductions.since ≡ l.initial.held.arena.given;
 }
 
 abbrev pub decreases-loop-held : goal.decreases-loop-held
-decreases-loop-held g l = turns l.initial.held.arena.given l.held
+decreases-loop-held g l = turns_with l.reductions.left l.reductions.since l.held

@@ -93,7 +93,7 @@ returns-clause-searched g c =
     let listed = subst (ListsLemmas c.args.limit start.arena.given end.arena c.run.new.journal) c.in-Limited.is c.in_ok-outcome.ensures.listed in
     let search = outcome.ends.0 in
     record {
-      verdict = IsLimited-learnt start end (g.T.Tracer.told c.args.tracer.now) after c.run.new.journal c.level-level.ensures.consistent outcome.consistent search listed.0 c.args.limit listed.1;
+      verdict = IsLimited-learnt start end (g.T.Tracer.told c.args.tracer.now) after c.run.new.journal c.level-level.ensures.consistent outcome.consistent search outcome.ends.2 listed.0 c.args.limit listed.1;
       ids = tt;
       at_rest = (ap (λ (h : HeldView). h.level) back, c.go_back.ensures.ready);
       leaves = subst (Leaves start) (sym back) (IsSearching-moved start end _ _ (part_up_to 0 end.trail) 0 search).leaves;

@@ -36,13 +36,19 @@ returns-clause-goes_on g c =
     let given : c.hold.new.self.arena.given ≡ old.arena.given + 1 = ap (λ (h : HeldView). h.arena.given) held in
     let chain = subst (λ (d : Clause). ChainOk (held_clause old.arena) d c.args.learnt.now.first.0 (chain_of c.args.learnt.now.rest)) (sym c.as_slice-lits.ensures) c.requires.derived.chain in
     let chain_too = subst (λ (xs : List Step). ChainOk (held_clause old.arena) c.as_slice-lits.result.now c.args.learnt.now.first.0 (chain_of xs)) (sym c.as_slice-rest.ensures) chain in
-    let new = subst (IsNew old.arena) (sym c.as_slice-lits.ensures) c.requires.new in
     λ start before search. record {
+      lent = search.lent;
+      covered = search.covered;
       leaves = Leaves-learnt start old c.hold.new.self c.in_ok-id.id.0 _ _ _ search.leaves (ap (λ (h : HeldView). h.vars) held) (ap (λ (h : HeldView). h.dead) held) given c.in_ok-id.ensures.next c.in_ok-id.ensures.fresh c.in_ok-id.ensures.only refl chain;
       kept = λ k. kept-learnt (held_clause start.arena) old.arena c.hold.new.self.arena c.in_ok-id.id.0 k _ (search.kept k) c.in_ok-id.ensures.fresh c.in_ok-id.ensures.only;
-      journal = IsJournal-learnt start.arena.given old.arena c.hold.new.self.arena c.in_ok-id.id.0 _ search.journal given c.in_ok-id.ensures.next c.in_ok-id.ensures.fresh c.in_ok-id.ensures.only c.in_ok-id.ensures.consistent.arena new;
       tells = TellsLearnt-told start before _ _ _ search.tells c.in_ok-derived.ensures.told (derived-of_search (λ (id : ℕ). ⊥) start old _ _ _ _ search.leaves c.in_ok-id.ensures.next chain_too);
     }
+
+pub returns-clause-journals : goal.returns-clause-journals
+returns-clause-journals g c = λ first journal.
+    let old = c.args.held.now in
+    let given : c.hold.new.self.arena.given ≡ old.arena.given + 1 = ap (λ (h : HeldView). h.arena.given) c.in_ok-id.ensures.held in
+    IsJournal-learnt first old.arena c.hold.new.self.arena c.in_ok-id.id.0 _ journal given c.in_ok-id.ensures.next c.in_ok-id.ensures.fresh c.in_ok-id.ensures.only c.in_ok-id.ensures.consistent.arena (subst (IsNew old.arena) (sym c.as_slice-lits.ensures) c.requires.new)
 
 pub returns-clause-listed : goal.returns-clause-listed
 returns-clause-listed g c = λ first lemmas are.
@@ -60,6 +66,9 @@ returns-clause-covers g c =
 pub returns-in_err-id-clause-goes_on : goal.returns-in_err-id-clause-goes_on
 returns-in_err-id-clause-goes_on g c = IfOk-from_err _ _ c.from_residual.ensures.0
 
+pub returns-in_err-id-clause-journals : goal.returns-in_err-id-clause-journals
+returns-in_err-id-clause-journals g c = IfOk-from_err _ _ c.from_residual.ensures.0
+
 pub returns-in_err-id-clause-listed : goal.returns-in_err-id-clause-listed
 returns-in_err-id-clause-listed g c = IfOk-from_err _ _ c.from_residual.ensures.0
 
@@ -74,6 +83,9 @@ returns-in_err-id-clause-covers g c = IfOk-from_err _ _ c.from_residual.ensures.
 
 pub returns-in_err-derived-clause-goes_on : goal.returns-in_err-derived-clause-goes_on
 returns-in_err-derived-clause-goes_on g c = IfOk-from_err _ _ c.from_residual-in_err-derived.ensures.0
+
+pub returns-in_err-derived-clause-journals : goal.returns-in_err-derived-clause-journals
+returns-in_err-derived-clause-journals g c = IfOk-from_err _ _ c.from_residual-in_err-derived.ensures.0
 
 pub returns-in_err-derived-clause-listed : goal.returns-in_err-derived-clause-listed
 returns-in_err-derived-clause-listed g c = IfOk-from_err _ _ c.from_residual-in_err-derived.ensures.0

@@ -4,7 +4,7 @@ use Rattle.craig_spec.specs.Literal.{Literal}
 use Rattle.craig_proof.specs.declared.step.Step.{Step}
 use Rattle.craig_watch.specs.Held.{HeldView, MayBeHeld}
 use Rattle.craig_search.specs.Journal.{AreLearnt}
-use Rattle.craig_search.specs.Searching.{IsSearching}
+use Rattle.craig_search.specs.Searching.{IsJournal, IsSearching}
 use Rattle.craig_search.proofs.LearntLemmas.{back-below, fits-back, known-falsified, known-pivots}
 use Rattle.craig_search.proofs.SearchingLemmas.{IsSearching-moved}
 use Rattle.craig_search.proofs.learning.learn.Goals as goal
@@ -42,12 +42,19 @@ returns-clause-goes_on g c = λ start before search.
     let moved = subst (λ (h : HeldView). IsSearching start h before (g.T.Tracer.told c.args.tracer.now)) (sym c.go_back.ensures.back) (IsSearching-moved start c.args.held.now before _ _ _ search) in
     c.in_ok-hold_learnt.ensures.goes_on start before moved
 
+pub returns-clause-journals : goal.returns-clause-journals
+returns-clause-journals g c = λ first journal.
+    c.in_ok-hold_learnt.ensures.journals first (subst (λ (h : HeldView). IsJournal first h.arena) (sym c.go_back.ensures.back) journal)
+
 pub returns-clause-listed : goal.returns-clause-listed
 returns-clause-listed g c = λ first lemmas are.
     c.in_ok-hold_learnt.ensures.listed first lemmas (subst (λ (h : HeldView). AreLearnt first h.arena lemmas) (sym c.go_back.ensures.back) are)
 
 pub returns-in_err-learnt-clause-goes_on : goal.returns-in_err-learnt-clause-goes_on
 returns-in_err-learnt-clause-goes_on g c = IfOk-from_err _ _ c.from_residual.ensures.0
+
+pub returns-in_err-learnt-clause-journals : goal.returns-in_err-learnt-clause-journals
+returns-in_err-learnt-clause-journals g c = IfOk-from_err _ _ c.from_residual.ensures.0
 
 pub returns-in_err-learnt-clause-given : goal.returns-in_err-learnt-clause-given
 returns-in_err-learnt-clause-given g c = IfOk-from_err _ _ c.from_residual.ensures.0
@@ -60,6 +67,9 @@ returns-in_err-learnt-clause-under_way g c = IfOk-from_err _ _ c.from_residual.e
 
 pub returns-in_err-hold_learnt-clause-goes_on : goal.returns-in_err-hold_learnt-clause-goes_on
 returns-in_err-hold_learnt-clause-goes_on g c = IfOk-from_err _ _ c.from_residual-in_err-hold_learnt.ensures.0
+
+pub returns-in_err-hold_learnt-clause-journals : goal.returns-in_err-hold_learnt-clause-journals
+returns-in_err-hold_learnt-clause-journals g c = IfOk-from_err _ _ c.from_residual-in_err-hold_learnt.ensures.0
 
 pub returns-in_err-hold_learnt-clause-given : goal.returns-in_err-hold_learnt-clause-given
 returns-in_err-hold_learnt-clause-given g c = IfOk-from_err _ _ c.from_residual-in_err-hold_learnt.ensures.0

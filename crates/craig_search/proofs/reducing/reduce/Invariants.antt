@@ -1,0 +1,16 @@
+use Rattle.std.proofs.Common.{◌≡◌}
+use Rattle.std.specs.Option.{is_some}
+use Rattle.craig_proof.specs.Covers.{IsCovering}
+use Rattle.craig_watch.specs.Held.{IsConsistent, held_clause}
+use Rattle.craig_search.specs.Reducing.{LetsGo}
+use Rattle.craig_search.proofs.reducing.reduce.Given as goal
+
+-- clauses were let go so far, and nothing else was done
+abbrev pub invariant-loop-number : goal.invariant-loop-number
+invariant-loop-number g l = record {
+  lets_go : LetsGo l.first l.initial.held l.held (g.T.Tracer.told l.initial.tracer) (g.T.Tracer.told l.tracer);
+  consistent : IsConsistent l.held;
+  covers : IsCovering (g.T.Tracer.told l.tracer) (held_clause l.held.arena) l.held.arena.given;
+  tells : is_some (g.T.Tracer.told l.tracer) ≡ is_some (g.T.Tracer.told l.initial.tracer);
+  kept : g.T.Tracer.kept l.tracer ≡ g.T.Tracer.kept l.initial.tracer;
+}

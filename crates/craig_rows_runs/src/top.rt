@@ -24,7 +24,7 @@ const UNSATISFIABLE: Row = Row {
 };
 
 /// Scripts that are read to their end.
-const ROWS: [Row; 36] = [
+const ROWS: [Row; 38] = [
     UNSATISFIABLE,
     Row {
         shows: "a cut variable alone, where an expansion over local ones would keep the input 2",
@@ -182,9 +182,19 @@ const ROWS: [Row; 36] = [
         replies: b"ok\nok\nok\nok\nok\nok\ns UNSATISFIABLE\nf 0\na 47\nc o 1 10\np cnf 10 3\n-10 2 0\n-10 1 0\n10 -2 -1 0\n",
     },
     Row {
+        shows: "interpolants in AIGER's binary form",
+        script: b"format aig\nadd 1 1 0\nadd 2 -1 0\nsolve 0\n",
+        replies: b"ok\nok\nok\ns UNSATISFIABLE\nf 0\na 40\naig 1 1 0 3 0\n1\n2\n0\ni0 1\no0 0\no1 1\no2 2\n",
+    },
+    Row {
+        shows: "a gate in AIGER's binary form",
+        script: b"system mcmillan\ncuts 1\nformat aig\nadd 1 1 0\nadd 1 2 0\nadd 2 -1 -2 0\nsolve 0\n",
+        replies: b"ok\nok\nok\nok\nok\nok\ns UNSATISFIABLE\nf 0\na 33\naig 3 2 0 1 1\n6\n\x02\x02i0 1\ni1 2\no0 1\n",
+    },
+    Row {
         shows: "formats, and what is none",
-        script: b"format\nformat dimacs\nformat cnf cnf\nformat CNF\nformat cnf\nformat aag\n",
-        replies: b"e 1\ne 1\ne 1\ne 1\nok\nok\n",
+        script: b"format\nformat dimacs\nformat cnf cnf\nformat CNF\nformat cnf\nformat aig\nformat aag\n",
+        replies: b"e 1\ne 1\ne 1\ne 1\nok\nok\nok\n",
     },
     Row {
         shows: "limits, and what is none",

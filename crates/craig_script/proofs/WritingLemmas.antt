@@ -149,6 +149,7 @@ mark_word-is_word mark.B = refl
 
 format_word-is_word : (f : FormatWord) → is_word (format_word f) ≡ true
 format_word-is_word format.Aag = refl
+format_word-is_word format.Aig = refl
 format_word-is_word format.Cnf = refl
 
 one_word : (w : List ℕ) → is_word w ≡ true → list_all is_word (w ∷ []) ≡ true
@@ -221,6 +222,7 @@ mark-read mark.B = refl
 
 format-read : (f : FormatWord) → format_named (format_word f) ≡ Some f
 format-read format.Aag = refl
+format-read format.Aig = refl
 format-read format.Cnf = refl
 
 cuts-read : (cuts : List ℤ) → are_writable_cuts (cut.Chosen cuts) ≡ true → cuts_of (map signed_decimal cuts) ≡ Ok (Cuts (cut.Chosen cuts))

@@ -110,6 +110,7 @@ limit_of ws = only_word ws >>= λ w. if bytes_eq w (codes "none") then Ok (Limit
 abbrev pub format_named : List ℕ → Option FormatWord
 format_named w =
     if bytes_eq w (codes "aag") then Some format.Aag
+    else if bytes_eq w (codes "aig") then Some format.Aig
     else if bytes_eq w (codes "cnf") then Some format.Cnf
     else None
 

@@ -42,6 +42,7 @@ limit_word (Some n) = decimal n
 -- the word for a format
 abbrev pub format_word : FormatWord → List ℕ
 format_word format.Aag = codes "aag"
+format_word format.Aig = codes "aig"
 format_word format.Cnf = codes "cnf"
 
 -- the words for an assumption

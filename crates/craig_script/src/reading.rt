@@ -310,6 +310,8 @@ pub fn format_named(word: &[u8]) -> Option<FormatWord>
 {
     if is_word(word, b"aag") {
         Some(FormatWord::Aag)
+    } else if is_word(word, b"aig") {
+        Some(FormatWord::Aig)
     } else if is_word(word, b"cnf") {
         Some(FormatWord::Cnf)
     } else {

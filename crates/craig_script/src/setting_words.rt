@@ -33,6 +33,8 @@ pub enum MarkWord {
 pub enum FormatWord {
     /// AIGER in its ASCII form.
     Aag,
+    /// AIGER in its binary form.
+    Aig,
     /// Clauses with a fresh variable for each gate.
     Cnf,
 }

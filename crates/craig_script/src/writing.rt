@@ -228,6 +228,7 @@ fn format_word(format: FormatWord) -> &'static [u8]
 {
     match format {
         FormatWord::Aag => b"aag",
+        FormatWord::Aig => b"aig",
         FormatWord::Cnf => b"cnf",
     }
 }

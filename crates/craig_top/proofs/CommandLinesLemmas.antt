@@ -23,7 +23,8 @@ use Rattle.craig_script.specs.Words.{words}
 use Rattle.craig_spec.specs.Cut.{PartClause}
 use Rattle.craig_spec.proofs.MemberLemmas.{Contains-image, list_all-member}
 use Rattle.craig_script.proofs.NumbersLemmas.{option_map-some}
-use Rattle.craig_top.specs.CommandLines.{format_word, format_words, limit_words, IsLimitInRange, AreInRange, ArePairsInRange, AreRisingCuts, add_words, all_cuts_words, cuts_words, mark_word, mark_words, parts_words, solve_words, system_word, system_words}
+use Rattle.craig_top.specs.CommandLines.{IsLimitInRange, AreInRange, ArePairsInRange, AreRisingCuts}
+use Rattle.craig_script.specs.Writing.{command_words, format_word, mark_word, system_word}
 use Rattle.craig_top.specs.GivenState.{State, any_clause, reading}
 use Rattle.craig_top.proofs.AsReadLemmas.{as_read}
 use Rattle.craig_top.proofs.RisingCutsLemmas.{rising-cuts, within-cuts}
@@ -106,8 +107,9 @@ mark-form w m e =
 format-form : (w : List ℕ) (f : FormatWord) → format_named w ≡ Some f → w ≡ format_word f
 format-form w f e =
     chosen-ok Form _ _ _ f e (same_word w (codes "aag"))
+    (λ e. chosen-ok Form _ _ _ f e (same_word w (codes "aig"))
     (λ e. chosen-ok Form _ _ _ f e (same_word w (codes "cnf"))
-    (λ e. absurd (cc)))
+    (λ e. absurd (cc))))
   where
     Form : FormatWord → Type 0
     Form t = w ≡ format_word t
@@ -119,15 +121,15 @@ only-ok (v ∷ vs) w e = let none = nothing-ok vs v w e in ap (λ rest. v ∷ re
 -- the command has these words
 abbrev Worded : Command → List (List ℕ) → Type 0
 Worded Nothing ws = Unit {0}
-Worded (Parts n) ws = ws ≡ parts_words n
-Worded (Add part lits) ws = ws ≡ add_words part lits
-Worded (System s) ws = ws ≡ system_words s
-Worded (Mark name m) ws = ws ≡ mark_words name m
-Worded (Limit limit) ws = ws ≡ limit_words limit
-Worded (Format f) ws = ws ≡ format_words f
-Worded (Cuts cut.All) ws = ws ≡ all_cuts_words
-Worded (Cuts (cut.Chosen zs)) ws = ws ≡ cuts_words zs
-Worded (Solve pairs) ws = ws ≡ solve_words pairs
+Worded (Parts n) ws = ws ≡ command_words (Parts n)
+Worded (Add part lits) ws = ws ≡ command_words (Add part lits)
+Worded (System s) ws = ws ≡ command_words (System s)
+Worded (Mark name m) ws = ws ≡ command_words (Mark name m)
+Worded (Limit limit) ws = ws ≡ command_words (Limit limit)
+Worded (Format f) ws = ws ≡ command_words (Format f)
+Worded (Cuts cut.All) ws = ws ≡ command_words (Cuts cut.All)
+Worded (Cuts (cut.Chosen zs)) ws = ws ≡ command_words (Cuts (cut.Chosen zs))
+Worded (Solve pairs) ws = ws ≡ command_words (Solve pairs)
 
 -- ---- the tests on what a command names
 
@@ -333,7 +335,7 @@ module _ (literal_form : (word : List ℕ) (z : ℤ) → literal_of word ≡ Som
 
   -- ---- lines
 
-  pub line_that_adds : (state : State) (bytes : List ℕ) (part : ℕ) (lits : List ℤ) → reading state (line.Text bytes) ≡ Ok (Add part lits) → (words bytes ≡ add_words part lits) × AreInRange state.settings.parts part lits
+  pub line_that_adds : (state : State) (bytes : List ℕ) (part : ℕ) (lits : List ℤ) → reading state (line.Text bytes) ≡ Ok (Add part lits) → (words bytes ≡ command_words (Add part lits)) × AreInRange state.settings.parts part lits
   line_that_adds state bytes part lits e =
       let tests = admitted-tests state (Add part lits) (read-ok state (line.Text bytes) (Add part lits) e).1 in (
         worded state bytes (Add part lits) e,
@@ -343,25 +345,25 @@ module _ (literal_form : (word : List ℕ) (z : ℤ) → literal_of word ≡ Som
         ),
       )
 
-  pub line_that_divides : (state : State) (bytes : List ℕ) (n : ℕ) → reading state (line.Text bytes) ≡ Ok (Parts n) → (words bytes ≡ parts_words n) × (1 ≤ n) × (n ≤ 4096) × (state.accepted ≡ [])
+  pub line_that_divides : (state : State) (bytes : List ℕ) (n : ℕ) → reading state (line.Text bytes) ≡ Ok (Parts n) → (words bytes ≡ command_words (Parts n)) × (1 ≤ n) × (n ≤ 4096) × (state.accepted ≡ [])
   line_that_divides state bytes n e =
       let tests = admitted-tests state (Parts n) (read-ok state (line.Text bytes) (Parts n) e).1 in
       let both = and_parts _ _ tests.1 in
       (worded state bytes (Parts n) e, leb-true 1 n both.0, leb-true n 4096 both.1, no_clause state.accepted tests.0)
 
-  pub line_that_names_a_system : (state : State) (bytes : List ℕ) (s : SystemWord) → reading state (line.Text bytes) ≡ Ok (System s) → words bytes ≡ system_words s
+  pub line_that_names_a_system : (state : State) (bytes : List ℕ) (s : SystemWord) → reading state (line.Text bytes) ≡ Ok (System s) → words bytes ≡ command_words (System s)
   line_that_names_a_system state bytes s e = worded state bytes (System s) e
 
-  pub line_that_marks : (state : State) (bytes : List ℕ) (name : ℕ) (m : MarkWord) → reading state (line.Text bytes) ≡ Ok (Mark name m) → (words bytes ≡ mark_words name m) × (1 ≤ name) × (name ≤ 2147483647)
+  pub line_that_marks : (state : State) (bytes : List ℕ) (name : ℕ) (m : MarkWord) → reading state (line.Text bytes) ≡ Ok (Mark name m) → (words bytes ≡ command_words (Mark name m)) × (1 ≤ name) × (name ≤ 2147483647)
   line_that_marks state bytes name m e =
       let tests = admitted-tests state (Mark name m) (read-ok state (line.Text bytes) (Mark name m) e).1 in
       let range = number_range name (and_parts _ _ tests.2).0 in
       (worded state bytes (Mark name m) e, range.0, range.1)
 
-  pub line_of_all_cuts : (state : State) (bytes : List ℕ) → reading state (line.Text bytes) ≡ Ok (Cuts cut.All) → words bytes ≡ all_cuts_words
+  pub line_of_all_cuts : (state : State) (bytes : List ℕ) → reading state (line.Text bytes) ≡ Ok (Cuts cut.All) → words bytes ≡ command_words (Cuts cut.All)
   line_of_all_cuts state bytes e = worded state bytes (Cuts cut.All) e
 
-  pub line_of_cuts : (state : State) (bytes : List ℕ) (zs : List ℤ) → reading state (line.Text bytes) ≡ Ok (Cuts (cut.Chosen zs)) → (words bytes ≡ cuts_words zs) × AreRisingCuts state.settings.parts zs
+  pub line_of_cuts : (state : State) (bytes : List ℕ) (zs : List ℤ) → reading state (line.Text bytes) ≡ Ok (Cuts (cut.Chosen zs)) → (words bytes ≡ command_words (Cuts (cut.Chosen zs))) × AreRisingCuts state.settings.parts zs
   line_of_cuts state bytes zs e =
       let tests = admitted-tests state (Cuts (cut.Chosen zs)) (read-ok state (line.Text bytes) (Cuts (cut.Chosen zs)) e).1 in (
         worded state bytes (Cuts (cut.Chosen zs)) e,
@@ -372,15 +374,15 @@ module _ (literal_form : (word : List ℕ) (z : ℤ) → literal_of word ≡ Som
         ),
       )
 
-  pub line_that_limits : (state : State) (bytes : List ℕ) (limit : Option ℕ) → reading state (line.Text bytes) ≡ Ok (Limit limit) → (words bytes ≡ limit_words limit) × IsLimitInRange limit
+  pub line_that_limits : (state : State) (bytes : List ℕ) (limit : Option ℕ) → reading state (line.Text bytes) ≡ Ok (Limit limit) → (words bytes ≡ command_words (Limit limit)) × IsLimitInRange limit
   line_that_limits state bytes limit e =
       let tests = admitted-tests state (Limit limit) (read-ok state (line.Text bytes) (Limit limit) e).1 in
       (worded state bytes (Limit limit) e, λ n is. let both = and_parts _ _ (rw is at tests.4) in (leb-true 1 n both.0, leb-true n 100000 both.1))
 
-  pub line_that_formats : (state : State) (bytes : List ℕ) (f : FormatWord) → reading state (line.Text bytes) ≡ Ok (Format f) → words bytes ≡ format_words f
+  pub line_that_formats : (state : State) (bytes : List ℕ) (f : FormatWord) → reading state (line.Text bytes) ≡ Ok (Format f) → words bytes ≡ command_words (Format f)
   line_that_formats state bytes f e = worded state bytes (Format f) e
 
-  pub line_that_solves : (state : State) (bytes : List ℕ) (pairs : List (ℕ × ℤ)) → reading state (line.Text bytes) ≡ Ok (Solve pairs) → (words bytes ≡ solve_words pairs) × ArePairsInRange state.settings.parts pairs
+  pub line_that_solves : (state : State) (bytes : List ℕ) (pairs : List (ℕ × ℤ)) → reading state (line.Text bytes) ≡ Ok (Solve pairs) → (words bytes ≡ command_words (Solve pairs)) × ArePairsInRange state.settings.parts pairs
   line_that_solves state bytes pairs e =
       let tests = admitted-tests state (Solve pairs) (read-ok state (line.Text bytes) (Solve pairs) e).1 in (
         worded state bytes (Solve pairs) e,

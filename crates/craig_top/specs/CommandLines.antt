@@ -15,14 +15,6 @@ use Rattle.craig_script.specs.declared.setting_words.SystemWord.TheVariants as s
 use Rattle.craig_script.specs.declared.command.Command.TheVariants.{Parts, Add, System, Mark, Cuts, Limit, Format, Solve}
 use Rattle.craig_top.specs.GivenState.{State, reading}
 
--- the words that add the clause of these numbers to the part
-abbrev pub add_words : ℕ → List ℤ → List (List ℕ)
-add_words part lits = codes "add" ∷ (decimal part ∷ (map signed_decimal lits ++ codes "0" ∷ []))
-
--- the words of a solve under assumptions, each a part and a literal
-abbrev pub solve_words : List (ℕ × ℤ) → List (List ℕ)
-solve_words pairs = codes "solve" ∷ (flat_map (λ pair. decimal pair.0 ∷ (signed_decimal pair.1 ∷ [])) pairs ++ codes "0" ∷ [])
-
 -- each part is from 0 to so many, and each variable from 1 to 2147483647
 abbrev pub ArePairsInRange : ℕ → List (ℕ × ℤ) → Type 0
 ArePairsInRange parts pairs = (pair : ℕ × ℤ) → Contains pairs pair → (pair.0 ≤ parts) × (1 ≤ unsigned_abs pair.1) × (unsigned_abs pair.1 ≤ 2147483647)
@@ -30,55 +22,6 @@ ArePairsInRange parts pairs = (pair : ℕ × ℤ) → Contains pairs pair → (p
 -- the part is from 0 to so many, and each variable is from 1 to 2147483647
 abbrev pub AreInRange : ℕ → ℕ → List ℤ → Type 0
 AreInRange parts part lits = (part ≤ parts) × ((z : ℤ) → Contains lits z → (1 ≤ unsigned_abs z) × (unsigned_abs z ≤ 2147483647))
-
--- the words that set the number of parts
-abbrev pub parts_words : ℕ → List (List ℕ)
-parts_words n = codes "parts" ∷ (decimal n ∷ [])
-
--- the word for a system
-abbrev pub system_word : SystemWord → List ℕ
-system_word system.McMillan = codes "mcmillan"
-system_word system.Pudlak = codes "pudlak"
-system_word system.Inverse = codes "inverse"
-system_word system.Dual = codes "dual"
-system_word system.Marks = codes "marks"
-system_word system.All = codes "all"
-
--- the words that set a system
-abbrev pub system_words : SystemWord → List (List ℕ)
-system_words s = codes "system" ∷ (system_word s ∷ [])
-
--- the word for a mark
-abbrev pub mark_word : MarkWord → List ℕ
-mark_word mark.A = codes "a"
-mark_word mark.Ab = codes "ab"
-mark_word mark.B = codes "b"
-
--- the words that mark a variable
-abbrev pub mark_words : ℕ → MarkWord → List (List ℕ)
-mark_words name m = codes "mark" ∷ (decimal name ∷ (mark_word m ∷ []))
-
--- the words that choose all cuts
-abbrev pub all_cuts_words : List (List ℕ)
-all_cuts_words = codes "cuts" ∷ (codes "all" ∷ [])
-
--- the words that choose these cuts
-abbrev pub cuts_words : List ℤ → List (List ℕ)
-cuts_words cuts = codes "cuts" ∷ map signed_decimal cuts
-
--- the words that set the conflict limit, or that there is none
-abbrev pub limit_words : Option ℕ → List (List ℕ)
-limit_words None = codes "limit" ∷ (codes "none" ∷ [])
-limit_words (Some n) = codes "limit" ∷ (decimal n ∷ [])
-
--- the word for a format
-abbrev pub format_word : FormatWord → List ℕ
-format_word format.Aag = codes "aag"
-format_word format.Cnf = codes "cnf"
-
--- the words that set a format
-abbrev pub format_words : FormatWord → List (List ℕ)
-format_words f = codes "format" ∷ (format_word f ∷ [])
 
 -- a limit is from 1 to 100000
 abbrev pub IsLimitInRange : Option ℕ → Type 0

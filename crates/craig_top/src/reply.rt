@@ -2,10 +2,11 @@
 
 ghost use Rattle.std.specs.Prelude.{◌≡◌, ◌≤◌, ◌+◌, ◌++◌, All, codes, decimal, vec_len, vec_capacity, OnOk};
 ghost use Rattle.craig_aiger.specs.AsciiText.{aag_text};
+ghost use Rattle.craig_aiger.specs.BinaryText.{aig_text};
 ghost use Rattle.craig_cnf.specs.LayoutClauses.{layout_text};
 ghost use Rattle.craig_top.specs.Appended.{AppendsOnly};
 ghost use Rattle.craig_top.specs.Blocks.{lined_bytes};
-ghost use Rattle.craig_top.specs.Formats.{ReadsBack, ascii_format, clause_format, format_of};
+ghost use Rattle.craig_top.specs.Formats.{ReadsBack, ascii_format, binary_format, clause_format, format_of};
 ghost use Rattle.craig_top.specs.ReplyTexts.{literal_text, literals_text, failed_text, lemma_text, unknown_line, satisfiable_text, ok_text, refusal_text};
 
 use craig_aiger::{Form, Layout};
@@ -84,6 +85,7 @@ pub fn append_interpolants(
 {
     match format {
         FormatWord::Aag => append_aag(circuit, out),
+        FormatWord::Aig => append_aig(circuit, out),
         FormatWord::Cnf => append_cnf(alloc, top, circuit, out),
     }
 }
@@ -96,6 +98,16 @@ fn append_aag(circuit: &Layout, out: &mut Vec<u8>) -> Result<(), AllocError>
 {
     append_size(out, circuit.size_of(Form::Aag))?;
     circuit.write_aag(out)
+}
+
+/// The block in AIGER's binary form.
+fn append_aig(circuit: &Layout, out: &mut Vec<u8>) -> Result<(), AllocError>
+    ensures text { OnOk result (out.new.items ≡ out.old.items ++ lined_bytes (codes "a") (aig_text circuit.now)) }
+    ensures reads_back { OnOk result (ReadsBack binary_format circuit.now) }
+    ensures appends { AppendsOnly out.old.items out.new.items }
+{
+    append_size(out, circuit.size_of(Form::Aig))?;
+    circuit.write_aig(out)
 }
 
 /// The block as clauses. Its text is written first, since the number of its bytes stands in front.

@@ -3,13 +3,14 @@
 ghost use Rattle.std.specs.Prelude.{◌≡◌, ◌≢◌, ℕ, ◌<◌, ◌≤◌, [], ◌∷◌, ◌++◌, List, Ok, Err, Contains, codes, length, map};
 ghost use Rattle.std.specs.List.{flat_map};
 ghost use Rattle.craig_script.specs.declared.command.Command.{Command};
-ghost use Rattle.craig_script.specs.declared.command.Command.TheVariants.{Cuts};
+ghost use Rattle.craig_script.specs.declared.command.Command.TheVariants.{Add, Cuts, Format, Limit, Mark, Parts, Solve, System};
 ghost use Rattle.craig_script.specs.declared.cut_word.CutWord.{CutWord};
 ghost use Rattle.craig_script.specs.declared.line.Line.TheVariants.{Overlong, Text};
 ghost use Rattle.craig_script.specs.declared.refusal.Refusal.TheVariants as refusal;
 ghost use Rattle.craig_script.specs.Lines.{last_part, line_of, script_lines, whole_lines};
 ghost use Rattle.craig_script.specs.Words.{words};
-ghost use Rattle.craig_top.specs.CommandLines.{AreInRange, ArePairsInRange, AreRisingCuts, IsLimitInRange, EachAddLine, EachCutsLine, EachFormatLine, EachLimitLine, EachMarkLine, EachPartsLine, EachSolveLine, EachSystemLine, add_words, all_cuts_words, cuts_words, format_words, limit_words, mark_words, parts_words, solve_words, system_words};
+ghost use Rattle.craig_script.specs.Writing.{command_words};
+ghost use Rattle.craig_top.specs.CommandLines.{AreInRange, ArePairsInRange, AreRisingCuts, IsLimitInRange, EachAddLine, EachCutsLine, EachFormatLine, EachLimitLine, EachMarkLine, EachPartsLine, EachSolveLine, EachSystemLine};
 ghost use Rattle.craig_top.specs.GivenState.{State, reading};
 
 /// The bytes of a script are its lines, each with a newline behind it, and what comes after the last newline, which is
@@ -29,15 +30,15 @@ pub fn lines_of_a_script()
 /// what it is set to; a number of parts is from 1 to 4096, and none is given once a clause is accepted. No line of more
 /// than 1048576 bytes is read as a command.
 pub fn words_of_commands()
-    ensures add { EachAddLine (λ state bytes part lits. (words bytes ≡ add_words part lits) × AreInRange state.settings.parts part lits) }
-    ensures parts { EachPartsLine (λ state bytes n. (words bytes ≡ parts_words n) × (1 ≤ n) × (n ≤ 4096) × (state.accepted ≡ [])) }
-    ensures system { EachSystemLine (λ bytes s. words bytes ≡ system_words s) }
-    ensures mark { EachMarkLine (λ bytes name m. (words bytes ≡ mark_words name m) × (1 ≤ name) × (name ≤ 2147483647)) }
-    ensures all_cuts { (state : State) (bytes : List ℕ) → reading state (Text bytes) ≡ Ok (Cuts CutWord.All) → words bytes ≡ all_cuts_words }
-    ensures cuts { EachCutsLine (λ state bytes cuts. (words bytes ≡ cuts_words cuts) × AreRisingCuts state.settings.parts cuts) }
-    ensures limit { EachLimitLine (λ bytes limit. (words bytes ≡ limit_words limit) × IsLimitInRange limit) }
-    ensures format { EachFormatLine (λ bytes f. words bytes ≡ format_words f) }
-    ensures solve { EachSolveLine (λ state bytes pairs. (words bytes ≡ solve_words pairs) × ArePairsInRange state.settings.parts pairs) }
+    ensures add { EachAddLine (λ state bytes part lits. (words bytes ≡ command_words (Add part lits)) × AreInRange state.settings.parts part lits) }
+    ensures parts { EachPartsLine (λ state bytes n. (words bytes ≡ command_words (Parts n)) × (1 ≤ n) × (n ≤ 4096) × (state.accepted ≡ [])) }
+    ensures system { EachSystemLine (λ bytes s. words bytes ≡ command_words (System s)) }
+    ensures mark { EachMarkLine (λ bytes name m. (words bytes ≡ command_words (Mark name m)) × (1 ≤ name) × (name ≤ 2147483647)) }
+    ensures all_cuts { (state : State) (bytes : List ℕ) → reading state (Text bytes) ≡ Ok (Cuts CutWord.All) → words bytes ≡ command_words (Cuts CutWord.All) }
+    ensures cuts { EachCutsLine (λ state bytes cuts. (words bytes ≡ command_words (Cuts (CutWord.Chosen cuts))) × AreRisingCuts state.settings.parts cuts) }
+    ensures limit { EachLimitLine (λ bytes limit. (words bytes ≡ command_words (Limit limit)) × IsLimitInRange limit) }
+    ensures format { EachFormatLine (λ bytes f. words bytes ≡ command_words (Format f)) }
+    ensures solve { EachSolveLine (λ state bytes pairs. (words bytes ≡ command_words (Solve pairs)) × ArePairsInRange state.settings.parts pairs) }
     ensures short { (state : State) (bytes : List ℕ) (c : Command) → reading state (Text bytes) ≡ Ok c → length bytes ≤ 1048576 }
     ensures overlong { (state : State) → reading state Overlong ≡ Err refusal.Overlong }
 {

@@ -1,6 +1,7 @@
 //! What replies say, what their bytes are, and what a line does to the given state.
 
 ghost use Rattle.std.specs.Prelude.{◌≡◌, ◌≢◌, ◌≤◌, ◌*◌, ◌^◌, Option, Some, IsTrue, Contains, length, ℕ, [], ◌++◌, List, Ok, Err, ℤ, true, codes, decimal, map, pos};
+ghost use Rattle.craig_spec.specs.AigerBinary.{read_aig};
 ghost use Rattle.craig_spec.specs.AigerReading.{read_aag};
 ghost use Rattle.craig_spec.specs.CircuitCnf.{read_cnf};
 ghost use Rattle.craig_spec.specs.Cut.{PartLiteral, with_units};
@@ -21,6 +22,7 @@ ghost use Rattle.craig_script.specs.declared.refusal.Refusal.{Refusal};
 ghost use Rattle.craig_script.specs.declared.setting_words.SystemWord.{SystemWord};
 ghost use Rattle.craig_top.specs.declared.settings.Settings.{Settings};
 ghost use Rattle.craig_aiger.specs.AsciiText.{aag_text};
+ghost use Rattle.craig_aiger.specs.BinaryText.{aig_text};
 ghost use Rattle.craig_cnf.specs.LayoutClauses.{layout_text};
 ghost use Rattle.craig_top.specs.DrawnSteps.{AreByTheRules};
 ghost use Rattle.craig_top.specs.Formats.{format_in, format_of, greatest_named};
@@ -40,10 +42,11 @@ pub fn texts_of_circuits()
     ensures outputs { EachText (λ format outputs bytes c. HaveOutputs outputs c.outputs) }
 {}
 
-/// How the format of a word is written and read: as AIGER in its ASCII form, or as clauses whose fresh variables come
-/// after a number.
+/// How the format of a word is written and read: as AIGER in its ASCII or its binary form, or as clauses whose fresh
+/// variables come after a number.
 pub fn formats_of_words()
     ensures aag { (top : ℕ) → ((format_of FormatWord.Aag top).write ≡ aag_text) × ((format_of FormatWord.Aag top).read ≡ read_aag) }
+    ensures aig { (top : ℕ) → ((format_of FormatWord.Aig top).write ≡ aig_text) × ((format_of FormatWord.Aig top).read ≡ read_aig) }
     ensures cnf { (top : ℕ) → ((format_of FormatWord.Cnf top).write ≡ layout_text top) × ((format_of FormatWord.Cnf top).read ≡ read_cnf top) }
 {}
 

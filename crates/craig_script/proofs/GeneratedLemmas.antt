@@ -13,7 +13,7 @@ use lib.Count.{ones as count_ones, ones_in}
 use Rattle.std.specs.Int.RustNames.{unsigned_abs}
 use Rattle.std.specs.List.{count_by, filter, flat_map, list_all, range_with_len}
 use Rattle.craig_script.specs.declared.command.Command.{Command}
-use Rattle.craig_script.specs.declared.command.Command.TheVariants.{Nothing, Parts, Add, System, Mark, Cuts, Limit, Format, Solve}
+use Rattle.craig_script.specs.declared.command.Command.TheVariants.{Parts, Add, Solve}
 use Rattle.craig_script.specs.declared.line.Line.TheVariants as line
 use Rattle.craig_script.specs.Generator.{adds_clause, end_bound, end_clause, end_clauses, fails, falling_bits, first_helper, generated, has_bit, higher_bit, holds, in_part, inner_bit, lowest_bit, next_helper, start_clause, state_bit, step_clauses, step_commands, step_helper, step_input}
 use Rattle.craig_script.proofs.GeneratorLemmas.{flat_map_push, range_more}
@@ -131,6 +131,7 @@ step-small limit before h =
     (all_both (is_small_clause limit) (lowest_bit before) (flat_map (inner_bit before) (range_with_len 1 5) ++ higher_bit before 6) (lowest_bit-small limit before h)
     (all_both (is_small_clause limit) (flat_map (inner_bit before) (range_with_len 1 5)) (higher_bit before 6) (inner_bits-small limit before 1 5 (lit≤ tt) h) (higher_bit-small limit before 6 (lit≤ tt) h)))
 
+-- the clauses of each row are small
 start-small : (limit from n : ℕ) → from + n ≤ 7 → 7 ≤ limit → AreSmall limit (map start_clause (range_with_len from n))
 start-small limit from zero low h = refl
 start-small limit from (suc n) low h =
@@ -179,16 +180,9 @@ end-small limit steps p (j ∷ js) e h =
 
 -- whether the command adds a small clause to one of the parts, or solves without assumptions
 abbrev pub is_small_command : ℕ → ℕ → Command → Bool
-is_small_command limit parts Nothing = false
-is_small_command limit parts (Parts n) = false
 is_small_command limit parts (Add part lits) = nat_le part parts && is_small_clause limit lits
-is_small_command limit parts (System s) = false
-is_small_command limit parts (Mark name m) = false
-is_small_command limit parts (Cuts cuts) = false
-is_small_command limit parts (Limit l) = false
-is_small_command limit parts (Format f) = false
 is_small_command limit parts (Solve []) = true
-is_small_command limit parts (Solve (pair ∷ pairs)) = false
+is_small_command limit parts _ = false
 
 in_part-small : (limit parts part : ℕ) (clauses : List (List ℤ)) → part ≤ parts → AreSmall limit clauses → list_all (is_small_command limit parts) (in_part part clauses) ≡ true
 in_part-small limit parts part [] within e = refl
@@ -196,6 +190,7 @@ in_part-small limit parts part (lits ∷ clauses) within e =
     let both = and_parts (is_small_clause limit lits) (list_all (is_small_clause limit) clauses) e in
     both_true (nat_le part parts && is_small_clause limit lits) _ (both_true (nat_le part parts) _ (grind (arith, nat_tests, within)) both.0) (in_part-small limit parts part clauses within both.1)
 
+-- the commands of the steps are small, and so is the whole script behind its first command
 steps-small : (limit parts from n : ℕ) → from + n ≤ parts → 14 * (from + n) + 7 ≤ limit → list_all (is_small_command limit parts) (flat_map step_commands (range_with_len from n)) ≡ true
 steps-small limit parts from zero within h = refl
 steps-small limit parts from (suc n) within h =
@@ -228,19 +223,13 @@ range_of : (limit v : ℕ) → is_within limit v ≡ true → (1 ≤ v) × (v �
 range_of limit v e = let both = and_parts _ _ e in (leb-true 1 v both.0, leb-true v limit both.1)
 
 small_variables : (limit parts : ℕ) (c : Command) (v : ℕ) → is_small_command limit parts c ≡ true → Contains (variables_named c) v → (1 ≤ v) × (v ≤ limit)
-small_variables limit parts Nothing v e here = absurd (cc)
-small_variables limit parts (Parts n) v e here = absurd (cc)
 small_variables limit parts (Add part lits) v e here =
     let both = and_parts (nat_le part parts) (is_small_clause limit lits) e in
     range_of limit v (member-passes (is_within limit) (map unsigned_abs lits) v here (and_parts _ _ both.1).0)
-small_variables limit parts (System s) v e here = absurd (cc)
-small_variables limit parts (Mark name m) v e here = absurd (cc)
-small_variables limit parts (Cuts cuts) v e here = absurd (cc)
-small_variables limit parts (Limit l) v e here = absurd (cc)
-small_variables limit parts (Format f) v e here = absurd (cc)
 small_variables limit parts (Solve []) v e (k, within, at) = absurd (omega (arith, within))
-small_variables limit parts (Solve (pair ∷ pairs)) v e here = absurd (cc)
+small_variables limit parts _ v e here = absurd (cc)
 
+-- each variable that a command names is from 1 to seven more than fourteen times the steps
 pub variables_of_generated : (n : ℕ) (c : Command) (v : ℕ) → Contains (generated n) c → Contains (variables_named c) v → (1 ≤ v) × (v ≤ 14 * n + 7)
 variables_of_generated n c v here =
     either (λ d. Contains (variables_named d) v → (1 ≤ v) × (v ≤ 14 * n + 7)) (Parts (n + 1)) c (later_commands n) here
@@ -294,22 +283,17 @@ admits_solve parts true = refl
 admits_solve parts false = refl
 
 small_admitted : (parts : ℕ) (any : Bool) (c : Command) → is_small_command variable_limit parts c ≡ true → admitted parts any c ≡ Ok tt
-small_admitted parts any Nothing e = absurd (cc)
-small_admitted parts any (Parts n) e = absurd (cc)
 small_admitted parts any (Add part lits) e =
     let both = and_parts (nat_le part parts) (is_small_clause variable_limit lits) e in
     admits_add parts part any lits both.0 (and_parts (list_all (is_within variable_limit) (map unsigned_abs lits)) (nat_le (length lits) 7) both.1).0
-small_admitted parts any (System s) e = absurd (cc)
-small_admitted parts any (Mark name m) e = absurd (cc)
-small_admitted parts any (Cuts cuts) e = absurd (cc)
-small_admitted parts any (Limit l) e = absurd (cc)
-small_admitted parts any (Format f) e = absurd (cc)
 small_admitted parts any (Solve []) e = admits_solve parts any
-small_admitted parts any (Solve (pair ∷ pairs)) e = absurd (cc)
+small_admitted parts any _ e = absurd (cc)
 
+-- the first command is accepted where a script begins
 pub parts_accepted : (n : ℕ) → n ≤ 60 → admitted 2 false (Parts (n + 1)) ≡ Ok tt
 parts_accepted n few = let within : is_within 4096 (n + 1) ≡ true = within-test 4096 (n + 1) (omega arith) (omega (arith, few)) in rw within refl
 
+-- each later one is accepted with the parts that the first gave
 pub later_accepted : (n : ℕ) (any : Bool) (c : Command) → n ≤ 60 → Contains (later_commands n) c → admitted (n + 1) any c ≡ Ok tt
 later_accepted n any c few here = small_admitted (n + 1) any c (small_later variable_limit n c (omega (arith, few)) here)
 
@@ -328,21 +312,15 @@ number-writable : (n : ℕ) → n ≤ 61 → is_writable_number n ≡ true
 number-writable n h = grind (arith, nat_tests, h)
 
 small_writable : (parts : ℕ) (c : Command) → parts ≤ 61 → is_small_command variable_limit parts c ≡ true → is_writable c ≡ true
-small_writable parts Nothing few e = absurd (cc)
-small_writable parts (Parts n) few e = absurd (cc)
 small_writable parts (Add part lits) few e =
     let both = and_parts (nat_le part parts) (is_small_clause variable_limit lits) e in
     let small = and_parts (list_all (is_within variable_limit) (map unsigned_abs lits)) (nat_le (length lits) 7) both.1 in
     let low : part ≤ parts = leb-true part parts both.0 in
     both_true (is_writable_number part) (list_all is_writable_literal lits) (number-writable part (omega (arith, low, few))) (small_literals lits small.0)
-small_writable parts (System s) few e = absurd (cc)
-small_writable parts (Mark name m) few e = absurd (cc)
-small_writable parts (Cuts cuts) few e = absurd (cc)
-small_writable parts (Limit l) few e = absurd (cc)
-small_writable parts (Format f) few e = absurd (cc)
 small_writable parts (Solve []) few e = refl
-small_writable parts (Solve (pair ∷ pairs)) few e = absurd (cc)
+small_writable parts _ few e = absurd (cc)
 
+-- each can be written
 pub generated_is_writable : (n : ℕ) (c : Command) → n ≤ 60 → Contains (generated n) c → is_writable c ≡ true
 generated_is_writable n c few here =
     either (λ d. is_writable d ≡ true) (Parts (n + 1)) c (later_commands n) here (number-writable (n + 1) (omega (arith, few)))
@@ -394,6 +372,7 @@ added-generated n few =
     let end : added ends ≡ count_ones (2 * n + 1) = added-part (n + 1) (end_clauses n) ∙ length-map (filter (has_bit (end_bound n)) falling_bits) (end_clause n) ∙ bits_counted n few in
     omega (arith, head, start, last, end, steps_count 0 n, added-both starts (steps ++ (ends ++ Solve [] ∷ [])), added-both steps (ends ++ Solve [] ∷ []), added-both ends (Solve [] ∷ []))
 
+-- seven clauses, 46 for each step and one for each bit of the bound
 pub generated_count : (n : ℕ) → n ≤ 60 → count_by adds_clause (generated n) ≡ 7 + 46 * n + count_ones (2 * n + 1)
 unfolding added
 generated_count n few = sym (length-filter adds_clause (generated n)) ∙ added-generated n few
@@ -420,20 +399,14 @@ short_clause part lits low within few =
     omega (arith, whole, length-append (decimal part) rest, short_number part (omega (arith, low)), short_literals lits within, few)
 
 small_short : (parts : ℕ) (c : Command) → parts ≤ 61 → is_small_command variable_limit parts c ≡ true → length (command_line c) ≤ 1048576
-small_short parts Nothing few e = absurd (cc)
-small_short parts (Parts n) few e = absurd (cc)
 small_short parts (Add part lits) few e =
     let both = and_parts (nat_le part parts) (is_small_clause variable_limit lits) e in
     let small = and_parts (list_all (is_within variable_limit) (map unsigned_abs lits)) (nat_le (length lits) 7) both.1 in
     short_clause part lits (omega (arith, leb-true part parts both.0, few)) small.0 (leb-true (length lits) 7 small.1)
-small_short parts (System s) few e = absurd (cc)
-small_short parts (Mark name m) few e = absurd (cc)
-small_short parts (Cuts cuts) few e = absurd (cc)
-small_short parts (Limit l) few e = absurd (cc)
-small_short parts (Format f) few e = absurd (cc)
 small_short parts (Solve []) few e = lit≤ tt
-small_short parts (Solve (pair ∷ pairs)) few e = absurd (cc)
+small_short parts _ few e = absurd (cc)
 
+-- the line of each is read as it
 pub generated_is_read : (n : ℕ) (c : Command) → n ≤ 60 → Contains (generated n) c → parsed (line.Text (command_line c)) ≡ Ok c
 generated_is_read n c few here = line_parsed c (generated_is_writable n c few here) short
   where

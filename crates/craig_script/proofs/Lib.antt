@@ -1,3 +1,4 @@
+pub mod CounterLemmas
 pub mod GeneratedLemmas
 pub mod GeneratorLemmas
 pub mod LinesLemmas

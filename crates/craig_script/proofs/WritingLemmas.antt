@@ -60,6 +60,7 @@ no_separators (b ∷ bs) e (suc k) d within = no_separators bs (and_parts (in_li
 kept : (w : List ℕ) (vs : List (List ℕ)) → has_byte w ≡ true → filter has_byte (w ∷ vs) ≡ w ∷ filter has_byte vs
 kept w vs e = rw e refl
 
+-- words with one space between them are split into these words again
 pub words-joined : (ws : List (List ℕ)) → list_all is_word ws ≡ true → words (join_with_byte 32 ws) ≡ ws
 words-joined [] e = refl
 words-joined (w ∷ []) e =
@@ -155,6 +156,7 @@ format_word-is_word format.Cnf = refl
 one_word : (w : List ℕ) → is_word w ≡ true → list_all is_word (w ∷ []) ≡ true
 one_word w e = both_true (is_word w) true e refl
 
+-- the words of a command are words of a line
 pub words-of_command : (c : Command) → is_writable c ≡ true → list_all is_word (command_words c) ≡ true
 words-of_command Nothing e = refl
 words-of_command (Parts n) e = one_word (decimal n) (decimal-is_word n (small_number n e))
@@ -234,6 +236,7 @@ cuts-read (pos n ∷ zs) e =
     let other : bytes_eq (decimal n) (codes "all") ≡ false = other_word number_of (decimal n) (codes "all") n read refl in
     rw (other, read, numbers-read zs both.1) refl
 
+-- they are read as the command
 pub command_read : (c : Command) → is_writable c ≡ true → command_of (command_words c) ≡ Ok c
 command_read Nothing e = absurd cc
 command_read (Parts n) e = rw (number_of-decimal n (small_number n e)) refl
@@ -255,6 +258,7 @@ command_read (Solve pairs) e = rw (pairs-read pairs e) refl
 pub line_read : (c : Command) → is_writable c ≡ true → command_of (words (command_line c)) ≡ Ok c
 line_read c e = ap command_of (words-of_line c e) ∙ command_read c e
 
+-- and so is its line, where it isn't overlong
 pub line_parsed : (c : Command) → is_writable c ≡ true → length (command_line c) ≤ line_limit → parsed (line.Text (command_line c)) ≡ Ok c
 line_parsed c e short = let within : nat_le (length (command_line c)) line_limit ≡ true = grind (arith, nat_tests, short) in rw within (line_read c e)
 
@@ -397,6 +401,7 @@ passes-both : {A : Type 0} (p q : A → Bool) (read : Result A Refusal) → pass
 passes-both p q (Ok x) e h = both_true (p x) (q x) e h
 passes-both p q (Err r) e h = refl
 
+-- what the words of a line ask for can be written, or is nothing
 passes-command : (ws : List (List ℕ)) → passes is_nothing_or_writable (command_of ws) ≡ true
 passes-command [] = refl
 passes-command (w ∷ ws) =
@@ -472,6 +477,7 @@ is_some_command (Limit limit) e some = e
 is_some_command (Format f) e some = refl
 is_some_command (Solve pairs) e some = e
 
+-- a command that was read can be written
 pub given_is_writable : (l : Line) (c : Command) → parsed l ≡ Ok c → c ≢ Nothing → is_writable c ≡ true
 given_is_writable line.Overlong c e some = absurd (cc)
 given_is_writable (line.Text bytes) c e some = is_some_command c (sym (ap (passes is_nothing_or_writable) e) ∙ passes-line bytes) some

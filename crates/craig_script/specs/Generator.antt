@@ -1,7 +1,7 @@
 -- The script of a counter of seven bits that moves by one or two at each step, as a free input says, and is said to end
--- above twice the number of steps.
-use Rattle.std.specs.Prelude.{ℕ, ◌+◌, ◌-◌, ◌*◌, ◌/◌, ◌%◌, ◌^◌, Bool, true, false, not, ◌==◌, List, [], ◌∷◌, ◌++◌, ℤ, pos, neg_ℤ, map}
-use Rattle.std.specs.List.{filter, flat_map, range_with_len}
+-- above twice the number of steps, which it can't.
+use Rattle.std.specs.Prelude.{ℕ, suc, ◌+◌, ◌-◌, ◌*◌, ◌/◌, ◌%◌, ◌^◌, Bool, true, false, not, ◌==◌, List, [], ◌∷◌, ◌++◌, ℤ, pos, negsuc, neg_ℤ, map}
+use Rattle.std.specs.List.{filter, flat_map, list_any, range_with_len}
 use Rattle.craig_script.specs.declared.command.Command.{Command}
 use Rattle.craig_script.specs.declared.command.Command.TheVariants.{Nothing, Parts, Add, System, Mark, Cuts, Limit, Format, Solve}
 use Rattle.craig_script.specs.declared.generator.Said.{Said}
@@ -120,3 +120,20 @@ adds_clause (Cuts cuts) = false
 adds_clause (Limit limit) = false
 adds_clause (Format f) = false
 adds_clause (Solve pairs) = false
+
+-- whether the literal is true where the variables have these values
+abbrev pub is_true_literal : (ℕ → Bool) → ℤ → Bool
+is_true_literal values (pos n) = values n
+is_true_literal values (negsuc n) = not (values (suc n))
+
+-- whether the clause is true that the command adds, if it adds one
+abbrev pub is_true_command : (ℕ → Bool) → Command → Bool
+is_true_command values Nothing = true
+is_true_command values (Parts n) = true
+is_true_command values (Add part lits) = list_any (is_true_literal values) lits
+is_true_command values (System s) = true
+is_true_command values (Mark name m) = true
+is_true_command values (Cuts cuts) = true
+is_true_command values (Limit limit) = true
+is_true_command values (Format f) = true
+is_true_command values (Solve pairs) = true

@@ -1,7 +1,7 @@
 //! The generator: scripts about a counter, one for each number of steps.
 //!
 //! The counter has seven bits, starts at 0 and moves by 1 or 2 at each step, by a free input. Each step is a part of its
-//! own, and a last part says that the counter ends above twice the number of steps.
+//! own, and a last part says that the counter ends above twice the number of steps, which it can't.
 
 ghost use Rattle.std.specs.Prelude.{◌≡◌, ◌+◌, ◌*◌, ◌<◌, ◌≤◌, count_by, List, [], ◌∷◌, ◌++◌, map, IfOk, OnOk};
 ghost use Rattle.std.specs.List.{filter, flat_map, range_with_len};
@@ -36,8 +36,8 @@ impl Said {
     }
 }
 
-/// The script of so many steps, from 1 to 60: the number of parts, the clauses, and a solve without assumptions. Only
-/// want of memory is a cause of an error.
+/// The script of so many steps, from 1 to 60: the number of parts, the clauses, which are unsatisfiable, and a solve
+/// without assumptions. Only want of memory is a cause of an error.
 pub fn make(alloc: Global, steps: u32) -> Result<Commands, AllocError>
     requires some { 1 ≤ steps }
     requires few { steps ≤ 60 }

@@ -3,9 +3,9 @@
 ghost use Rattle.std.specs.Prelude.{◌≡◌, ◌≢◌, ℕ, ◌+◌, ◌*◌, ◌^◌, ◌<◌, ◌≤◌, Bool, false, ℤ, pos, List, [], ◌++◌, count_by, count_ones, drop, length, map, Contains, IsTrue, Ok};
 ghost use Rattle.std.specs.Fmt.{decimal, signed_decimal};
 ghost use Rattle.std.specs.Int.RustNames.{unsigned_abs};
-ghost use Rattle.std.specs.List.{concat};
+ghost use Rattle.std.specs.List.{concat, list_all};
 ghost use Rattle.craig_script.specs.NumberWords.{IsLiteralWord, number_of, literal_of};
-ghost use Rattle.craig_script.specs.Generator.{adds_clause, generated};
+ghost use Rattle.craig_script.specs.Generator.{adds_clause, generated, is_true_command};
 ghost use Rattle.craig_script.specs.Reading.{admitted, command_of, parsed, variables_named};
 ghost use Rattle.craig_script.specs.Words.{words};
 ghost use Rattle.craig_script.specs.Writing.{command_line, command_words, is_writable};
@@ -65,4 +65,10 @@ pub fn generated_scripts()
     ensures later { (n : ℕ) (any : Bool) (c : Command) → n ≤ 60 → Contains (drop 1 (generated n)) c → admitted (n + 1) any c ≡ Ok tt }
     ensures writable { (n : ℕ) (c : Command) → n ≤ 60 → Contains (generated n) c → IsTrue (is_writable c) }
     ensures read { (n : ℕ) (c : Command) → n ≤ 60 → Contains (generated n) c → parsed (Text (command_line c)) ≡ Ok c }
+{}
+
+/// A generated script of at most 60 steps is unsatisfiable: whatever values the variables have, one of its clauses is
+/// false.
+pub fn generated_is_unsatisfiable()
+    ensures { (n : ℕ) (values : ℕ → Bool) → n ≤ 60 → list_all (is_true_command values) (generated n) ≡ false }
 {}

@@ -53,7 +53,7 @@ forced-decision t failed id told decision =
     let no : Some id ≡ None = is ∙ decision.decided in
     cc
 
-module _ (h : HeldView) (failed : Literal) (id : ℕ) (start end : List ChainStep) (s0 s1 : ResolventView) (ok : IsConsistent h) (b : HasBegunReason h failed id s0) (f : HasForced h start end s0 s1) where
+module _ (h : HeldView) (failed : Literal) (id : ℕ) (start end : List ChainStep) (s0 s1 : ResolventView) (ok : IsConsistent h) (b : HasBegunReason h failed id s0) (f : HasForced Decisions h start end s0 s1) where
   failed-false : IsFalse h.trail failed
   failed-false = subst (IsFalse h.trail) (sym b.failed_is) (place-false h.trail b.place ok.distinct b.within)
 

@@ -10,10 +10,11 @@ use Rattle.craig_base.specs.declared.clause_id.ClauseId.{ClauseId}
 use Rattle.craig_base.specs.Arena.{IsLive, literals_at}
 use Rattle.craig_watch.specs.Trail.{Trail, entry_of, IsAssigned, IsFalse, AreDistinct}
 use Rattle.craig_watch.specs.Held.{HeldView, held_clause, IsConsistent}
+use Rattle.craig_analyze.specs.declared.staying.Staying.{Staying}
 use Rattle.craig_analyze.specs.declared.staying.Staying.TheVariants.{Decisions}
 use Rattle.craig_analyze.specs.Marks.{IsMarked}
 use Rattle.craig_proof.specs.NeededSteps.{bound_of}
-use Rattle.craig_analyze.specs.Resolvent.{ResolventView, at_place, negated_at, resolvent_of, IsUnresolved, Meets, HasMet, IsGreatestTaken, IsResolvable, HasResolved, HasBegunReason, HasForced, IsForcing}
+use Rattle.craig_analyze.specs.Resolvent.{ResolventView, at_place, negated_at, resolvent_of, IsUnresolved, Meets, HasMet, IsGreatestTaken, IsResolvable, HasResolved, AreForced, HasBegunReason, HasForced, IsForcing}
 use Rattle.craig_analyze.proofs.PlaceLemmas.{false-place, false-within, within-false, same_place, entry_of-place}
 use Rattle.craig_analyze.proofs.LevelLemmas.{reason_of-cases}
 use Rattle.craig_analyze.proofs.ChainLemmas.{IsChain-same}
@@ -49,6 +50,7 @@ only-unresolved h place v ok within is = record {
   lower_inner = λ k d w. absurd (omega arith);
   lower_apart = λ i j d before w. absurd (omega arith);
   lower_marked = λ k d w. absurd (omega arith);
+  apart = λ p l here. absurd (no_member p here);
   met = λ l falsified marked. elim (Contains-cases v [] l.var marked) [
     | inl same ↦ absurd (not-within h.trail place l ok.distinct within (sym same ∙ is) falsified)
     | inr none ↦ absurd (no_member l.var none)
@@ -85,6 +87,7 @@ HasBegunReason-met h failed id new ok falsified told meets =
       within = at.1;
       end = forced;
       marked = subst (Contains (failed.var ∷ [])) var (Contains-front failed.var []);
+      gone = λ stay. no_member (negated_at t place) stay;
       forced = forced;
       unresolved = begun;
     } in
@@ -118,30 +121,31 @@ false-higher t low high l apart le falsified =
     let below : at.0 < low = at.1 in
     subst (IsFalse (take high t)) at.3 (within-false high t at.0 apart (omega arith) at.2)
 
-pub forcing-first : (h : HeldView) (b : ℕ) (before : List ChainStep) (old : ResolventView) → IsUnresolved Decisions h b old → IsForcing h before before old old
-forcing-first h b before old u = record {
+pub forcing-first : (k : Staying) (h : HeldView) (b : ℕ) (before : List ChainStep) (old : ResolventView) → IsUnresolved k h b old → IsForcing k h before before old old
+forcing-first k h b before old u = record {
   bound = b;
-  low = λ k d w. bound_of-above old.pending (get_or old.pending k d) (Contains-get_or old.pending k d w);
+  low = λ i d w. bound_of-above old.pending (get_or old.pending i d) (Contains-get_or old.pending i d w);
   unresolved = u;
   earlier = λ l here. inl here;
   chain = λ start extra apart leads. leads;
 }
 
-pub forcing-resolvable : (h : HeldView) (place : ℕ) (before after : List ChainStep) (old s mid : ResolventView) → IsConsistent h → IsForcing h before after old s → IsGreatestTaken place s mid → IsResolvable Decisions h place mid
-forcing-resolvable h place before after old s mid ok f is_taken =
-    let taken = IsGreatestTaken-taken Decisions h f.bound place s mid ok f.unresolved is_taken in
+pub forcing-resolvable : (k : Staying) (h : HeldView) (place : ℕ) (before after : List ChainStep) (old s mid : ResolventView) → IsConsistent h → AreForced k h → IsForcing k h before after old s → IsGreatestTaken place s mid → IsResolvable k h place mid
+forcing-resolvable k h place before after old s mid ok all f is_taken =
+    let taken = IsGreatestTaken-taken k h f.bound place s mid ok f.unresolved is_taken in
     record {
       within = taken.within;
       end = taken.end;
       marked = taken.marked;
-      forced = taken.end;
+      gone = taken.gone;
+      forced = all (at_place h.trail place) taken.end;
       unresolved = taken.unresolved;
     }
 
-pub forcing-next : (h : HeldView) (place : ℕ) (before steps after : List ChainStep) (old s mid new : ResolventView) → IsConsistent h → IsForcing h before steps old s → IsGreatestTaken place s mid → HasResolved Decisions h place steps after mid new → IsForcing h before after old new × (bound_of new.pending < bound_of s.pending)
-forcing-next h place before steps after old s mid new ok f is_taken resolved =
+pub forcing-next : (k : Staying) (h : HeldView) (place : ℕ) (before steps after : List ChainStep) (old s mid new : ResolventView) → IsConsistent h → IsForcing k h before steps old s → IsGreatestTaken place s mid → HasResolved k h place steps after mid new → IsForcing k h before after old new × (bound_of new.pending < bound_of s.pending)
+forcing-next k h place before steps after old s mid new ok f is_taken resolved =
     let t : Trail = h.trail in
-    let taken = IsGreatestTaken-taken Decisions h f.bound place s mid ok f.unresolved is_taken in
+    let taken = IsGreatestTaken-taken k h f.bound place s mid ok f.unresolved is_taken in
     let low : place < bound_of old.pending = All-contains (λ p. p < bound_of old.pending) s.pending place f.low taken.there in
     let smaller : bound_of new.pending ≤ place = bound_of-le new.pending place resolved.unresolved.below in
     let bigger : place < bound_of s.pending = bound_of-above s.pending place taken.there in (
@@ -161,5 +165,5 @@ forcing-next h place before steps after old s mid new ok f is_taken resolved =
       omega arith,
     )
 
-pub forcing-ended : (h : HeldView) (before after : List ChainStep) (old s : ResolventView) → IsForcing h before after old s → s.pending ≡ [] → HasForced h before after old s
-forcing-ended h before after old s f none = record { bound = f.bound; unresolved = f.unresolved; none = none; earlier = f.earlier; chain = f.chain }
+pub forcing-ended : (k : Staying) (h : HeldView) (before after : List ChainStep) (old s : ResolventView) → IsForcing k h before after old s → s.pending ≡ [] → HasForced k h before after old s
+forcing-ended k h before after old s f none = record { bound = f.bound; unresolved = f.unresolved; none = none; earlier = f.earlier; chain = f.chain }

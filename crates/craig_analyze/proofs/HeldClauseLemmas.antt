@@ -43,6 +43,7 @@ IsUnresolved-nothing h = record {
   lower_inner = λ k d w. absurd (omega arith);
   lower_apart = λ i j d before w. absurd (omega arith);
   lower_marked = λ k d w. absurd (omega arith);
+  apart = λ p l here. absurd (no_member p here);
   met = λ l _ marked. absurd (no_member l.var marked);
 }
 

@@ -11,7 +11,7 @@ use Rattle.craig_watch.specs.Held.{HeldView, held_clause, IsConsistent}
 use Rattle.craig_analyze.specs.declared.learnt.Learnt.{Learnt}
 use Rattle.craig_analyze.specs.Learnt.{IsDerived, IsAssertingClause, IsGreatestOf, IsNumberOfDifferent}
 use Rattle.craig_analyze.specs.declared.staying.Staying.TheVariants.{InnerLevels}
-use Rattle.craig_analyze.specs.Resolvent.{ResolventView, at_place, negated_at, resolvent_of, IsEndLevel, IsUnresolved, HasBegun, HasPresent, HasFound, HasEnded, Leads}
+use Rattle.craig_analyze.specs.Resolvent.{ResolventView, at_place, negated_at, resolvent_of, IsEndLevel, IsUnresolved, HasBegun, HasPresent, HasFound, HasEnded, HasMinimized, Leads}
 use Rattle.craig_analyze.proofs.PlaceLemmas.{place-false, level_at-place, false-assigned, false-not_both}
 use Rattle.craig_analyze.proofs.ResolventLemmas.{has-cases}
 
@@ -30,13 +30,16 @@ begun-present h id s l ok b has level =
     ]
 
 -- the literal that was found
-found-false : (h : HeldView) (first : Literal) (before after : List ChainStep) (old s : ResolventView) → IsConsistent h → HasFound h first before after old s → IsFalse h.trail first
+pub found-false : (h : HeldView) (first : Literal) (before after : List ChainStep) (old s : ResolventView) → IsConsistent h → HasFound h first before after old s → IsFalse h.trail first
 found-false h first before after old s ok f = subst (IsFalse h.trail) (sym f.first_is) (place-false h.trail f.place ok.distinct f.within)
 
-found-level : (h : HeldView) (first : Literal) (before after : List ChainStep) (old s : ResolventView) → IsConsistent h → HasFound h first before after old s → level_at h.trail first ≡ h.level
+pub found-level : (h : HeldView) (first : Literal) (before after : List ChainStep) (old s : ResolventView) → IsConsistent h → HasFound h first before after old s → level_at h.trail first ≡ h.level
 found-level h first before after old s ok f = ap (level_at h.trail) f.first_is ∙ level_at-place h.trail f.place ok.distinct f.within ∙ f.level
 
 -- what is left of the resolvent
+pub minimized-lower : (h : HeldView) (first : Literal) (before after : List ChainStep) (old s : ResolventView) → HasMinimized h first before after old s → resolvent_of h.trail s ≡ s.lower
+minimized-lower h first before after old s e = ap (λ (places : List ℕ). map (negated_at h.trail) places ++ s.lower) e.none
+
 pub ended-lower : (h : HeldView) (before after : List ChainStep) (old s : ResolventView) → HasEnded h before after old s → resolvent_of h.trail s ≡ s.lower
 ended-lower h before after old s e = ap (λ (places : List ℕ). map (negated_at h.trail) places ++ s.lower) e.none
 
@@ -53,7 +56,7 @@ apart-cons x xs first rest (suc i) (suc j) d before within = rest i j d (omega a
 same-level : (t : Trail) (l m : Literal) → l.var ≡ m.var → level_at t l ≡ level_at t m
 same-level t l m e = ap (λ v. level_at t (record { var = v; negated = l.negated })) e
 
-module _ (h : HeldView) (id : ℕ) (first : Literal) (start mid end : List ChainStep) (s0 s1 s2 : ResolventView) (ok : IsConsistent h) (above : 0 < h.level) (b : HasBegun h id s0) (f : HasFound h first start mid s0 s1) (e : HasEnded h mid end s1 s2) where
+module _ (h : HeldView) (id : ℕ) (first : Literal) (start mid end : List ChainStep) (s0 s1 s2 : ResolventView) (ok : IsConsistent h) (above : 0 < h.level) (b : HasBegun h id s0) (f : HasFound h first start mid s0 s1) (e : HasMinimized h first mid end s1 s2) where
   pub learnt-false : All (IsFalse h.trail) (first ∷ s2.lower)
   learnt-false = All-cons (IsFalse h.trail) first s2.lower (found-false h first start mid s0 s1 ok f) e.unresolved.lower_false
 
@@ -76,14 +79,12 @@ module _ (h : HeldView) (id : ℕ) (first : Literal) (start mid end : List Chain
 
   learnt-chain : start ≡ [] → ChainOk (held_clause h.arena) (first ∷ s2.lower) id end
   learnt-chain none =
-      let level : level_at h.trail first ≡ h.level = found-level h first start mid s0 s1 ok f in
-      let up : 0 < level_at h.trail first = omega arith in
       let begins : Leads h b.conflict start [] s0 = subst (λ (steps : List ChainStep). Leads h b.conflict steps [] s0) (sym none) b.same in
-      let whole : Leads h b.conflict end (first ∷ []) s2 = e.chain b.conflict (first ∷ []) (All-cons (λ l. IsFalse h.trail l × (0 < level_at h.trail l)) first [] (found-false h first start mid s0 s1 ok f, up) (All-nil (λ l. IsFalse h.trail l × (0 < level_at h.trail l)))) (f.chain b.conflict begins) in
+      let whole : Leads h b.conflict end (first ∷ []) s2 = e.chain b.conflict (f.chain b.conflict begins) in
       record {
         start = b.conflict;
         start_is = b.held;
-        chain = subst (λ (c : Clause). IsChain (held_clause h.arena) b.conflict end (first ∷ c)) (ended-lower h mid end s1 s2 e) whole;
+        chain = subst (λ (c : Clause). IsChain (held_clause h.arena) b.conflict end (first ∷ c)) (minimized-lower h first mid end s1 s2 e) whole;
       }
 
   -- the clause and its chain

@@ -10,3 +10,5 @@ mod LoopLemmas
 mod LearntLemmas
 mod ForcingLemmas
 mod CoreLemmas
+mod RedundancyLemmas
+mod MinimizingLemmas

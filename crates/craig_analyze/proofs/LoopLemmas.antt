@@ -39,6 +39,7 @@ walking-first h b place before old s ok above u present is_taken =
       within = taken.within;
       level = present-taken h place present.0 old s ok above taken (taken-le place present.0 old s is_taken present.1) present.2;
       marked = taken.marked;
+      gone = taken.gone;
       unresolved = taken.unresolved;
       chain = λ start leads. IsChain-same (held_clause h.arena) start before (resolvent_of h.trail old) (negated_at h.trail place ∷ resolvent_of h.trail s) leads taken.same;
     }
@@ -60,6 +61,7 @@ walking-resolvable h place before after old s ok w (p, has, above) =
       within = w.within;
       end = inr w.level;
       marked = w.marked;
+      gone = w.gone;
       forced = reason-first h.trail place ok.levels w.within (inr (p, low, same ∙ sym w.level));
       unresolved = w.unresolved;
     }
@@ -95,6 +97,7 @@ walking-next h place next before steps after old s mid new ok above w others res
         within = first.within;
         level = first.level;
         marked = first.marked;
+        gone = first.gone;
         unresolved = first.unresolved;
         chain = λ start leads. first.chain start (resolved.chain start [] (All-nil (λ l. (¬ IsFalse (take place h.trail) (negation l)) × (l ≢ negated_at h.trail place))) (w.chain start leads));
       },
@@ -130,6 +133,7 @@ ending-resolvable h place before after old s mid ok e is_taken =
       within = taken.within;
       end = taken.end;
       marked = taken.marked;
+      gone = taken.gone;
       forced = reason-first h.trail place ok.levels taken.within (inl level);
       unresolved = taken.unresolved;
     }

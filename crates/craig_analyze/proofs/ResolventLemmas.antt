@@ -132,6 +132,10 @@ HasMet-lower k h b s lit marked ok u lit_false fresh is stays =
         lower_inner = All-push (Stays k h) s.lower lit u.lower_inner stays;
         lower_apart = all_pairs_push (λ l m. l.var ≢ m.var) s.lower lit u.lower_apart (λ k d w e. fresh (subst (Contains s.marked) e (u.lower_marked k d w)));
         lower_marked = All-push (λ l. Contains marked l.var) s.lower lit (All-weaker (λ l. Contains s.marked l.var) (λ l. Contains marked l.var) (λ l. marked-more s.marked marked lit.var l.var is) s.lower u.lower_marked) (marked-last s.marked marked lit.var is);
+        apart = λ p l here stay. elim (Contains-push_cases s.lower lit l stay) [
+          | inl before ↦ u.apart p l here before
+          | inr last ↦ λ e. fresh (subst (Contains s.marked) (ap (λ (m : Literal). m.var) (sym (last ∙ e))) (All-contains (λ q. Contains s.marked (at_place t q).literal.var) s.pending p u.pending_marked here))
+        ];
         met = adds-met h b lit s new ok u lit_false is adds;
       };
       literals = adds-literals t b lit s new lit_false adds;
@@ -162,7 +166,8 @@ once-cases : (b : Bool) (x p : ℕ) (xs : List ℕ) → eqb x p ≡ b → NoneMo
 once-cases true x p xs is once none = let e : x ≡ p = eqb-true x p is in let zero_x : count_of x xs ≡ 0 = ap (λ k. count_of k xs) e ∙ none in omega arith
 once-cases false x p xs is once none = let le : count_of x xs ≤ 1 = once x in omega arith
 
-once-pushed : (p : ℕ) (xs ys : List ℕ) → NoneMoreThan 1 xs → ¬ Contains xs p → IsPermutation (p ∷ xs) ys → NoneMoreThan 1 ys
+-- a place that was not pending
+pub once-pushed : (p : ℕ) (xs ys : List ℕ) → NoneMoreThan 1 xs → ¬ Contains xs p → IsPermutation (p ∷ xs) ys → NoneMoreThan 1 ys
 once-pushed p xs ys once fresh moved x =
     let same : count_of x ys ≡ count_of x (p ∷ xs) = count_of-permutation x (p ∷ xs) ys moved in
     let sum : count_of x (p ∷ xs) ≡ cond (eqb x p) 1 0 + count_of x xs = count_of-cons x p xs in
@@ -192,6 +197,10 @@ HasMet-pending k h b s lit marked pending p ok u lit_false fresh is p_within fou
         lower_inner = u.lower_inner;
         lower_apart = u.lower_apart;
         lower_marked = All-weaker (λ l. Contains s.marked l.var) (λ l. Contains marked l.var) (λ l. marked-more s.marked marked lit.var l.var is) s.lower u.lower_marked;
+        apart = λ q l here stay. elim (Contains-cases p s.pending q (Contains-permutation pending (p ∷ s.pending) q (IsPermutation-sym (p ∷ s.pending) pending moved) here)) [
+          | inl same ↦ λ e. fresh (subst (Contains s.marked) (ap (λ (m : Literal). m.var) (e ∙ ap (negated_at t) (sym same) ∙ negated)) (All-contains (λ m. Contains s.marked m.var) s.lower l u.lower_marked stay))
+          | inr before ↦ u.apart q l before stay
+        ];
         met = adds-met h b lit s new ok u lit_false is adds;
       };
       literals = adds-literals t b lit s new lit_false adds;

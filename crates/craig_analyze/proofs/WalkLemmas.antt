@@ -5,7 +5,6 @@ use Rattle.std.specs.List.Sorted.{IsPermutation}
 use Rattle.std.proofs.lemmas.List.Elements.{All-head, All-tail, All-contains, Contains-append_cases, Contains-get_or}
 use Rattle.std.proofs.lemmas.List.{get_or_default}
 use Rattle.std.proofs.lemmas.List.Sorted.{All-permutation, Contains-permutation, IsPermutation-sym}
-use Rattle.std.proofs.lemmas.Option.{same_Some}
 use Rattle.craig_spec.specs.Literal.{Literal, Clause, negation}
 use Rattle.craig_spec.specs.Chain.{ChainStep, SameLiterals}
 use Rattle.craig_base.specs.Counting.{count_of, NoneMoreThan}
@@ -15,14 +14,12 @@ use Rattle.craig_proof.specs.declared.step.Step.{Step}
 use Rattle.craig_proof.specs.Tracer.{chain_of}
 use Rattle.craig_spec.proofs.MemberLemmas.{Contains-cases, Contains-front, Contains-later}
 use Rattle.craig_spec.proofs.LiteralLemmas.{same_or_not}
-use Rattle.craig_watch.specs.Trail.{Trail, any_entry, entry_of, IsFalse, IsAssigned, level_at, AreDistinct}
+use Rattle.craig_watch.specs.Trail.{Trail, any_entry, entry_of, IsFalse, IsAssigned, AreDistinct}
 use Rattle.craig_watch.specs.Held.{HeldView, held_clause, Forces, IsConsistent}
 use Rattle.craig_watch.proofs.PlacesLemmas.{IsFalse-take}
 use Rattle.craig_analyze.specs.declared.staying.Staying.{Staying}
-use Rattle.craig_analyze.specs.declared.staying.Staying.TheVariants.{InnerLevels, Decisions}
-use Rattle.craig_watch.specs.declared.trail_entry.TrailEntry.{TrailEntry}
-use Rattle.craig_analyze.specs.Resolvent.{ResolventView, at_place, negated_at, resolvent_of, IsResolvedOn, Stays, IsUnresolved, MayBeMet, HasMet, Meets, IsGreatestTaken, IsResolvable, HasResolved}
-use Rattle.craig_analyze.proofs.PlaceLemmas.{false-not_both, false-within, within-false, false-assigned, place-assigned, place-false, same_negated, entry_of-place, level_at-place}
+use Rattle.craig_analyze.specs.Resolvent.{ResolventView, at_place, negated_at, resolvent_of, IsResolvedOn, IsUnresolved, MayBeMet, HasMet, Meets, IsGreatestTaken, IsResolvable, HasResolved}
+use Rattle.craig_analyze.proofs.PlaceLemmas.{false-not_both, false-within, within-false, false-assigned, place-assigned, place-false, same_negated, entry_of-place}
 use Rattle.craig_analyze.proofs.LevelLemmas.{reason_of-cases}
 use Rattle.craig_analyze.proofs.CountLemmas.{count_of-permutation, Contains-counted}
 use Rattle.craig_base.proofs.CountingLemmas.{count_of-cons}
@@ -36,6 +33,7 @@ pub record Taken (k : Staying) (h : HeldView) (place : ℕ) (old new : Resolvent
   pub within : place < length h.trail
   pub end : IsResolvedOn k h (at_place h.trail place)
   pub marked : Contains new.marked (at_place h.trail place).literal.var
+  pub gone : ¬ Contains new.lower (negated_at h.trail place)
   pub unresolved : IsUnresolved k h place new
   pub same : SameLiterals (resolvent_of h.trail old) (negated_at h.trail place ∷ resolvent_of h.trail new)
 
@@ -102,6 +100,7 @@ Taken-same k h b place s pending ok u moved greatest =
       within = within;
       end = All-head (λ p. IsResolvedOn k h (at_place t p)) place pending all_ends;
       marked = All-head (λ p. Contains s.marked (at_place t p).literal.var) place pending all_marked;
+      gone = λ stay. u.apart place (negated_at t place) (Contains-permutation (place ∷ pending) s.pending place (IsPermutation-sym s.pending (place ∷ pending) moved) (Contains-front place pending)) stay refl;
       unresolved = record {
         within = omega arith;
         below = below-greatest place s.pending pending u.once moved greatest;
@@ -112,6 +111,7 @@ Taken-same k h b place s pending ok u moved greatest =
         lower_inner = u.lower_inner;
         lower_apart = u.lower_apart;
         lower_marked = u.lower_marked;
+        apart = λ p l here. u.apart p l (Contains-permutation (place ∷ pending) s.pending p (IsPermutation-sym s.pending (place ∷ pending) moved) (Contains-later place pending p here));
         met = λ l falsified has.
             let lower = lower-place t place b l ok.distinct low within falsified in
             elim (Contains-cases (negated_at t place) (resolvent_of t new) l ((same l).0 (u.met l lower.0 has))) [ inl e ↦ absurd (lower.1 e) | inr rest ↦ rest ];
@@ -129,18 +129,6 @@ pub no-reason : {A : Type 0} (o : Option A) → o ≡ None → ¬ IsSome o
 no-reason None is some = let no : false ≡ true = some in cc
 no-reason (Some x) is some = let no : Some x ≡ None = is in cc
 
--- a literal that is resolved on doesn't stay
-apart-stays : (k : Staying) (h : HeldView) (place : ℕ) → IsConsistent h → place < length h.trail → IsResolvedOn k h (at_place h.trail place) → IsSome (at_place h.trail place).reason → ¬ Stays k h (negated_at h.trail place)
-apart-stays InnerLevels h place ok within end forced inner =
-    let above : 0 < level_at h.trail (negated_at h.trail place) = inner.0 in
-    let below : level_at h.trail (negated_at h.trail place) < h.level = inner.1 in
-    let level : level_at h.trail (negated_at h.trail place) ≡ (at_place h.trail place).level = level_at-place h.trail place ok.distinct within in
-    elim end [ inl z ↦ (let zero_level : (at_place h.trail place).level ≡ 0 = z in omega arith) | inr p ↦ (let present : (at_place h.trail place).level ≡ h.level = p in omega arith) ]
-apart-stays Decisions h place ok within end forced decision =
-    let found : Some decision.entry ≡ Some (at_place h.trail place) = sym decision.found ∙ entry_of-place h.trail place ok.distinct within in
-    let same : decision.entry ≡ at_place h.trail place = same_Some _ _ found in
-    no-reason (at_place h.trail place).reason (sym (ap (λ (e : TrailEntry). e.reason) same) ∙ decision.decided) forced
-
 -- the pivot is not in the rest of the resolvent
 pivot-gone : (k : Staying) (h : HeldView) (place : ℕ) (s : ResolventView) → IsConsistent h → IsResolvable k h place s → ¬ Contains (resolvent_of h.trail s) (negated_at h.trail place)
 pivot-gone k h place s ok r has =
@@ -150,7 +138,7 @@ pivot-gone k h place s ok r has =
           let low : there.0 < place = All-contains (λ p. p < place) s.pending there.0 r.unresolved.below there.1 in
           let same : there.0 ≡ place = same_negated h.trail there.0 place ok.distinct (omega arith) within there.2 in
           omega arith
-      | inr lower ↦ apart-stays k h place ok within r.end r.forced (All-contains (Stays k h) s.lower (negated_at h.trail place) r.unresolved.lower_inner lower)
+      | inr lower ↦ r.gone lower
     ]
 
 -- the literals of a reason may be met

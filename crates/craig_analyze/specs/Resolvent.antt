@@ -11,7 +11,7 @@ use Rattle.craig_watch.specs.Trail.{Trail, any_entry, IsFalse, level_at}
 use Rattle.craig_watch.specs.Held.{HeldView, held_clause}
 use Rattle.craig_analyze.specs.declared.resolvent.Resolvent.{Resolvent}
 use Rattle.craig_analyze.specs.declared.staying.Staying.{Staying}
-use Rattle.craig_analyze.specs.declared.staying.Staying.TheVariants.{InnerLevels, Decisions}
+use Rattle.craig_analyze.specs.declared.staying.Staying.TheVariants.{InnerLevels, Decisions, Irredundant}
 use Rattle.craig_analyze.specs.Decision.{IsDecision}
 
 -- what contracts see of a resolvent
@@ -43,15 +43,17 @@ resolvent_of t s = map (negated_at t) s.pending ++ s.lower
 abbrev pub IsEndLevel : HeldView → ℕ → Type 0
 IsEndLevel h level = (level ≡ 0) ⊎ (level ≡ h.level)
 
--- the entry is one whose literal is resolved on: of an end level, or where decisions stay, one that has a reason
+-- the entry is one whose literal may be resolved on: of an end level, or for the other two, one that has a reason
 abbrev pub IsResolvedOn : Staying → HeldView → TrailEntry → Type 0
 IsResolvedOn InnerLevels h e = IsEndLevel h e.level
 IsResolvedOn Decisions h e = IsSome e.reason
+IsResolvedOn Irredundant h e = IsSome e.reason
 
--- the literal stays: it is of a level between, or it negates a decision
+-- the literal may stay: it is of a level between, it negates a decision, or it is of a level above 0
 abbrev pub Stays : Staying → HeldView → Literal → Type 0
 Stays InnerLevels h l = (0 < level_at h.trail l) × (level_at h.trail l < h.level)
 Stays Decisions h l = IsDecision h.trail (negation l)
+Stays Irredundant h l = 0 < level_at h.trail l
 
 -- a false clause under way: what is pending stands below the bound, and what is marked there is in the clause
 pub record IsUnresolved (k : Staying) (h : HeldView) (bound : ℕ) (s : ResolventView) : Type 0 where
@@ -73,6 +75,8 @@ pub record IsUnresolved (k : Staying) (h : HeldView) (bound : ℕ) (s : Resolven
   pub lower_apart : AllPairs (λ l m. l.var ≢ m.var) s.lower
   -- their variables are marked
   pub lower_marked : All (λ l. Contains s.marked l.var) s.lower
+  -- no literal that stays is pending
+  pub apart : (p : ℕ) (l : Literal) → Contains s.pending p → Contains s.lower l → l ≢ negated_at h.trail p
   -- what is false below the bound and marked is in the clause
   pub met : (l : Literal) → IsFalse (take bound h.trail) l → Contains s.marked l.var → Contains (resolvent_of h.trail s) l
 
@@ -114,6 +118,8 @@ pub record IsResolvable (k : Staying) (h : HeldView) (place : ℕ) (s : Resolven
   pub marked : Contains s.marked (at_place h.trail place).literal.var
   -- it has a reason
   pub forced : IsSome (at_place h.trail place).reason
+  -- the literal that it makes false doesn't stay
+  pub gone : ¬ Contains s.lower (negated_at h.trail place)
   -- what is pending stands below it
   pub unresolved : IsUnresolved k h place s
 
@@ -187,6 +193,8 @@ pub record IsWalking (h : HeldView) (place : ℕ) (before after : List ChainStep
   pub level : (at_place h.trail place).level ≡ h.level
   -- its variable is marked
   pub marked : Contains s.marked (at_place h.trail place).literal.var
+  -- the literal that it makes false is taken out
+  pub gone : ¬ Contains s.lower (negated_at h.trail place)
   -- what is pending stands below it
   pub unresolved : IsUnresolved InnerLevels h place s
   -- a chain to the resolvent at the start leads to the literal and the present resolvent
@@ -214,11 +222,11 @@ pub record HasBegunReason (h : HeldView) (failed : Literal) (id : ℕ) (s : Reso
   pub earlier : (l : Literal) → Contains (resolvent_of h.trail s) l → IsFalse (take place h.trail) l
 
 -- all literals that have a reason are resolved on, and what is left stays
-pub record HasForced (h : HeldView) (before after : List ChainStep) (old new : ResolventView) : Type 0 where
+pub record HasForced (k : Staying) (h : HeldView) (before after : List ChainStep) (old new : ResolventView) : Type 0 where
   -- a bound of what was pending
   pub bound : ℕ
   -- the clause is under way still
-  pub unresolved : IsUnresolved Decisions h bound new
+  pub unresolved : IsUnresolved k h bound new
   -- nothing is pending
   pub none : new.pending ≡ []
   -- what came in is false by what stands below the first bound
@@ -227,17 +235,41 @@ pub record HasForced (h : HeldView) (before after : List ChainStep) (old new : R
   pub chain : (start extra : Clause) → ((p : ℕ) → p < bound_of old.pending → AreApart h p extra) → Leads h start before extra old → Leads h start after extra new
 
 -- the resolution with reasons so far
-pub record IsForcing (h : HeldView) (before after : List ChainStep) (old s : ResolventView) : Type 0 where
+pub record IsForcing (k : Staying) (h : HeldView) (before after : List ChainStep) (old s : ResolventView) : Type 0 where
   -- a bound of what is pending
   pub bound : ℕ
   -- it is no higher than at the start
   pub low : All (λ p. p < bound_of old.pending) s.pending
   -- the clause is under way
-  pub unresolved : IsUnresolved Decisions h bound s
+  pub unresolved : IsUnresolved k h bound s
   -- what came in is false by what stands below the first bound
   pub earlier : (l : Literal) → Contains (resolvent_of h.trail s) l → Contains (resolvent_of h.trail old) l ⊎ IsFalse (take (bound_of old.pending) h.trail) l
   -- a chain to the resolvent at the start, beside such literals, leads to the present one
   pub chain : (start extra : Clause) → ((p : ℕ) → p < bound_of old.pending → AreApart h p extra) → Leads h start before extra old → Leads h start after extra s
+
+-- what is resolved on has a reason
+abbrev pub AreForced : Staying → HeldView → Type 0
+AreForced k h = (e : TrailEntry) → IsResolvedOn k h e → IsSome e.reason
+
+-- literals that stayed are pending now, and the clause is the same
+pub record IsSetAside (h : HeldView) (old new : ResolventView) : Type 0 where
+  -- where all have lower levels than the present one, the clause is under way below a place of the present level
+  pub unresolved : (bound : ℕ) → bound < length h.trail → (at_place h.trail bound).level ≡ h.level → All (λ l. level_at h.trail l < h.level) old.lower → IsUnresolved Irredundant h bound old → IsUnresolved Irredundant h bound new
+  -- it has the same literals
+  pub same : SameLiterals (resolvent_of h.trail old) (resolvent_of h.trail new)
+  -- what stays has stayed
+  pub fewer : (l : Literal) → Contains new.lower l → Contains old.lower l
+
+-- an asserting literal was found, and what was pending and what follows from the rest was resolved on
+pub record HasMinimized (h : HeldView) (first : Literal) (before after : List ChainStep) (old new : ResolventView) : Type 0 where
+  -- a bound of what was pending
+  pub bound : ℕ
+  -- the clause is under way still
+  pub unresolved : IsUnresolved InnerLevels h bound new
+  -- nothing is pending
+  pub none : new.pending ≡ []
+  -- a chain to the literal and the resolvent before leads to the literal and the one after
+  pub chain : (start : Clause) → Leads h start before (first ∷ []) old → Leads h start after (first ∷ []) new
 
 -- the resolution at level 0 so far
 pub record IsEnding (h : HeldView) (before after : List ChainStep) (old s : ResolventView) : Type 0 where

@@ -51,7 +51,8 @@ impl Analysis {
     /// The clause is false now. Its first literal alone is of the present level, and no other is of level 0, so that
     /// it forces the first after going back to the level `back`, the greatest of the others' levels. No held clause is
     /// contained in it, and its chain begins at `conflict` and ends in its literals. `glue` counts the different levels
-    /// of its literals. The clause is that of the first unique implication point. An `AllocError` comes only for want of
+    /// of its literals. The clause is that of the first unique implication point without what follows from the rest of
+    /// it. An `AllocError` comes only for want of
     /// memory, and the workspace may be used again after it.
     pub fn learn_with(&mut self, held: &Held, conflict: ClauseId) -> Result<Learnt, AllocError>
         requires level { 0 < held.now.level }
@@ -64,7 +65,7 @@ impl Analysis {
         let mut rest = Steps::new(self.alloc);
         self.resolvent.begin(held, conflict)?;
         let first = self.resolvent.find_asserting(held, &mut rest)?;
-        self.resolvent.resolve_root(held, &mut rest)?;
+        self.resolvent.minimize(held, first, &mut rest)?;
         let lits = with_first(self.alloc, first, self.resolvent.lower.as_slice())?;
         let back = greatest_level(held, self.resolvent.lower.as_slice());
         let glue = count_levels(&mut self.levels, held, lits.as_slice())?;

@@ -38,7 +38,8 @@ impl Analysis {
         };
         let mut rest = Steps::new(self.alloc);
         self.resolvent.begin_reason(held, failed, reason)?;
-        self.resolvent.resolve_forced(held, &mut rest)?;
+        self.resolvent
+            .resolve_forced(held, Staying::Decisions, &mut rest)?;
         let lits = with_first(self.alloc, failed.not(), self.resolvent.lower.as_slice())?;
         Ok(Core::Clause(Learnt {
             lits,

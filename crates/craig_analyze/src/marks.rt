@@ -1,6 +1,6 @@
 //! Sets of numbers that are cleared at the cost of what is in them.
-ghost use Rattle.std.specs.Prelude.{◌≡◌, ◌≤◌, ℕ, [], false, length, slice_index_or, vec_len, IfOk, OnOk, OnErr};
-ghost use Rattle.craig_base.specs.Counting.{NoneMoreThan};
+ghost use Rattle.std.specs.Prelude.{◌≡◌, ◌≤◌, ℕ, [], false, if◌then◌else◌, length, slice_index_or, vec_len, IfOk, OnOk, OnErr};
+ghost use Rattle.craig_base.specs.Counting.{NoneMoreThan, count_of};
 ghost use Rattle.craig_analyze.specs.Marks.{IsMarked};
 
 use std::alloc::{AllocError, Global};
@@ -49,6 +49,13 @@ impl Marks {
         self.marked.push(number)?;
         self.flags[place] = true;
         Ok(true)
+    }
+
+    /// Whether the number is in the set.
+    pub(crate) fn has(&self, number: u32) -> bool
+        ensures { count_of number self.now ≡ (if result then 1 else 0) }
+    {
+        is_set(self.flags.as_slice(), number as usize)
     }
 
     /// Takes all numbers out.

@@ -1,12 +1,13 @@
 //! The literals of a clause come into the resolvent.
-ghost use Rattle.std.specs.Prelude.{◌≡◌, ◌≢◌, ◌⊎◌, [], ◌∷◌, Some, true, false, All, OnOk, is_some};
+ghost use Rattle.std.specs.Prelude.{◌≡◌, ◌≢◌, ◌<◌, ◌⊎◌, [], ◌∷◌, Some, true, false, All, OnOk, is_some};
 ghost use Rattle.craig_base.specs.Arena.{IsLive, literals_at};
 ghost use Rattle.std.specs.Option.{option_map};
 ghost use Rattle.craig_watch.specs.declared.trail_entry.TrailEntry.{TrailEntry};
-ghost use Rattle.craig_watch.specs.Trail.{IsAssigned, IsFalse, entry_of};
+ghost use Rattle.craig_watch.specs.Trail.{IsAssigned, IsFalse, entry_of, level_at};
 ghost use Rattle.craig_watch.specs.Held.{IsConsistent, IsFalsified};
 ghost use Rattle.craig_analyze.specs.Resolvent.{HasBegun, HasBegunReason, IsResolvedOn, Meets, Stays, view_of};
 
+use crate::redundancy::Redundancy;
 use crate::resolvent::Resolvent;
 use crate::staying::Staying;
 use craig_base::{ClauseId, Lit};
@@ -73,7 +74,7 @@ impl Resolvent {
         if !self.variables.insert(var.0)? {
             return Ok(());
         }
-        if is_resolved_on(held, staying, lit) {
+        if is_resolved_on(held, &self.redundancy, staying, lit) {
             self.pending.push(held.place_of(var))?;
         } else {
             self.lower.push(lit)?;
@@ -82,9 +83,9 @@ impl Resolvent {
     }
 }
 
-/// Whether a false literal is resolved on: one of level 0 or of the present level, or where decisions stay, one that was
-/// forced.
-fn is_resolved_on(held: &Held, staying: Staying, lit: Lit) -> bool
+/// Whether a false literal is resolved on: one of level 0 or of the present level; where decisions stay, one that was
+/// forced; and where what follows goes, one of level 0 or one that follows.
+fn is_resolved_on(held: &Held, redundancy: &Redundancy, staying: Staying, lit: Lit) -> bool
     requires { IsAssigned held.now.trail lit.var }
     ensures yes { result ≡ true → (e : TrailEntry) → entry_of held.now.trail lit.var ≡ Some e → IsResolvedOn staying held.now e }
     ensures no { result ≡ false → IsFalse held.now.trail lit → Stays staying held.now lit }
@@ -94,6 +95,7 @@ fn is_resolved_on(held: &Held, staying: Staying, lit: Lit) -> bool
     match staying {
         Staying::InnerLevels => is_end_level(held.level_of(lit.var()), present),
         Staying::Decisions => is_forced(held, lit),
+        Staying::Irredundant => is_root(held, lit) || is_following(held, redundancy, lit),
     }
 }
 
@@ -105,8 +107,26 @@ fn is_end_level(level: u32, present: u32) -> bool
     level == 0 || level == present
 }
 
+/// Whether the literal is of level 0, so that a clause forced its variable.
+fn is_root(held: &Held, lit: Lit) -> bool
+    requires { IsAssigned held.now.trail lit.var }
+    ensures yes { result ≡ true → option_map (λ e. is_some e.reason) (entry_of held.now.trail lit.var) ≡ Some true }
+    ensures no { result ≡ false → 0 < level_at held.now.trail lit }
+{
+    let _ = held.level();
+    held.level_of(lit.var()) == 0
+}
+
+/// Whether the literal was found to follow from others, and its variable was forced by a clause.
+fn is_following(held: &Held, redundancy: &Redundancy, lit: Lit) -> bool
+    requires { IsAssigned held.now.trail lit.var }
+    ensures { result ≡ true → option_map (λ e. is_some e.reason) (entry_of held.now.trail lit.var) ≡ Some true }
+{
+    redundancy.is_redundant(lit.var()) && is_forced(held, lit)
+}
+
 /// Whether the literal's variable was forced by a clause.
-fn is_forced(held: &Held, lit: Lit) -> bool
+pub(crate) fn is_forced(held: &Held, lit: Lit) -> bool
     requires { IsAssigned held.now.trail lit.var }
     ensures { option_map (λ e. is_some e.reason) (entry_of held.now.trail lit.var) ≡ Some result }
 {

@@ -4,6 +4,7 @@ ghost use Rattle.std.specs.Ordering.{nat_cmp};
 ghost use Rattle.std.proofs.Props.{props};
 
 use crate::marks::Marks;
+use crate::redundancy::Redundancy;
 use craig_base::Lit;
 use std::alloc::Global;
 use std::collections::BinaryHeap;
@@ -18,6 +19,8 @@ pub struct Resolvent {
     pub pending: BinaryHeap<usize>,
     /// The literals that stay: those of the levels between, or those of decisions.
     pub lower: Vec<Lit>,
+    /// Which literals follow from the others.
+    pub redundancy: Redundancy,
     ghost ordered: { IsHeap nat_cmp (heap_items pending) } by { Prim.hlevel props },
 }
 
@@ -28,6 +31,7 @@ impl Resolvent {
             variables: Marks::new(alloc),
             pending: BinaryHeap::new(alloc),
             lower: Vec::new(alloc),
+            redundancy: Redundancy::new(alloc),
         }
     }
 }

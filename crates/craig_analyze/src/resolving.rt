@@ -3,8 +3,8 @@ ghost use Rattle.std.specs.Prelude.{◌≡◌, ◌<◌, ℕ, true, false, All, C
 ghost use Rattle.std.specs.BinaryHeap.{heap_items, heap_len};
 ghost use Rattle.craig_proof.specs.Tracer.{chain_of};
 ghost use Rattle.craig_watch.specs.Held.{IsConsistent};
-ghost use Rattle.craig_analyze.specs.declared.staying.Staying.TheVariants.{InnerLevels, Decisions};
-ghost use Rattle.craig_analyze.specs.Resolvent.{HasEnded, HasForced, HasFound, HasPresent, HasResolved, IsResolvable, IsGreatestTaken, IsUnresolved, at_place, view_of};
+ghost use Rattle.craig_analyze.specs.declared.staying.Staying.TheVariants.{InnerLevels};
+ghost use Rattle.craig_analyze.specs.Resolvent.{AreForced, HasEnded, HasForced, HasFound, HasPresent, HasResolved, IsResolvable, IsGreatestTaken, IsUnresolved, at_place, view_of};
 
 use crate::resolvent::Resolvent;
 use crate::staying::Staying;
@@ -48,19 +48,21 @@ impl Resolvent {
         Ok(())
     }
 
-    /// Resolves back along the trail until decisions alone are left.
+    /// Resolves back along the trail until nothing is pending, where all that is resolved on has a reason.
     pub(crate) fn resolve_forced(
         &mut self,
         held: &Held,
+        staying: Staying,
         steps: &mut Steps,
     ) -> Result<(), AllocError>
         requires consistent { IsConsistent held.now }
-        requires unresolved { (bound : ℕ) × IsUnresolved Decisions held.now bound (view_of self.old) }
-        ensures { OnOk result (HasForced held.now (chain_of steps.old) (chain_of steps.new) (view_of self.old) (view_of self.new)) }
+        requires forced { AreForced staying held.now }
+        requires unresolved { (bound : ℕ) × IsUnresolved staying held.now bound (view_of self.old) }
+        ensures { OnOk result (HasForced staying held.now (chain_of steps.old) (chain_of steps.new) (view_of self.old) (view_of self.new)) }
     {
         while !self.pending.is_empty() {
             let place = self.take_greatest();
-            self.resolve_on(held, Staying::Decisions, steps, place)?;
+            self.resolve_on(held, staying, steps, place)?;
         }
         Ok(())
     }

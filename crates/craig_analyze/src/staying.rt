@@ -7,4 +7,6 @@ pub enum Staying {
     InnerLevels,
     /// Those of decisions, for a core.
     Decisions,
+    /// Those that don't follow from the others, for an asserting clause that is made shorter.
+    Irredundant,
 }

@@ -23,34 +23,32 @@ find_asserting-requires c =
       present = begun-present h c.args.conflict.0 (view_of c.begin.new.self) two.0 ok begun (subst (λ (d : Clause). Contains d two.0) same two.2) two.5;
     }
 
-pub resolve_root-requires : goal.resolve_root-requires
-resolve_root-requires c =
-    let found = c.in_ok-first.ensures in
-    record {
-      consistent = c.begin.ensures.consistent;
-      unresolved = (found.place, found.unresolved);
-      root = found.root;
-    }
+pub minimize-requires : goal.minimize-requires
+minimize-requires c = record {
+  consistent = c.begin.ensures.consistent;
+  level = c.requires.level;
+  found = (_, view_of c.begin.new.self, c.in_ok-first.ensures);
+}
 
 pub greatest_level-back-requires : goal.greatest_level-back-requires
 greatest_level-back-requires c =
     let h = c.args.held.now in
-    let ended = c.in_ok-resolve_root.ensures in
-    subst (All (λ (l : Literal). IsAssigned h.trail l.var)) (sym c.as_slice-2.ensures.value) (lower-assigned h ended.bound (view_of c.resolve_root.new.self) ended.unresolved)
+    let ended = c.in_ok-minimize.ensures in
+    subst (All (λ (l : Literal). IsAssigned h.trail l.var)) (sym c.as_slice-2.ensures.value) (lower-assigned h ended.bound (view_of c.minimize.new.self) ended.unresolved)
 
 pub count_levels-requires : goal.count_levels-requires
 count_levels-requires c =
     let h = c.args.held.now in
     let lits = c.as_slice-3.ensures ∙ c.in_ok-lits.ensures ∙ ap (λ (lower : Clause). c.in_ok-first.first ∷ lower) c.as_slice.ensures.value in
     record {
-      assigned = subst (All (λ (l : Literal). IsAssigned h.trail l.var)) (sym lits) (learnt-assigned h c.args.conflict.0 c.in_ok-first.first _ _ _ (view_of c.begin.new.self) (view_of c.find_asserting.new.self) (view_of c.resolve_root.new.self) c.begin.ensures.consistent c.requires.level c.in_ok-begin.ensures.begun c.in_ok-first.ensures c.in_ok-resolve_root.ensures);
+      assigned = subst (All (λ (l : Literal). IsAssigned h.trail l.var)) (sym lits) (learnt-assigned h c.args.conflict.0 c.in_ok-first.first _ _ _ (view_of c.begin.new.self) (view_of c.find_asserting.new.self) (view_of c.minimize.new.self) c.begin.ensures.consistent c.requires.level c.in_ok-begin.ensures.begun c.in_ok-first.ensures c.in_ok-minimize.ensures);
       consistent = c.begin.ensures.consistent;
     }
 
 pub returns-clause-derived : goal.returns-clause-derived
 returns-clause-derived c =
     let lits = c.in_ok-lits.ensures ∙ ap (λ (lower : Clause). c.in_ok-first.first ∷ lower) c.as_slice.ensures.value in
-    learnt-derived c.args.held.now c.args.conflict.0 c.in_ok-first.first _ _ _ (view_of c.begin.new.self) (view_of c.find_asserting.new.self) (view_of c.resolve_root.new.self) c.begin.ensures.consistent c.requires.level c.in_ok-begin.ensures.begun c.in_ok-first.ensures c.in_ok-resolve_root.ensures _ lits refl refl (ap chain_of c.new-rest.ensures)
+    learnt-derived c.args.held.now c.args.conflict.0 c.in_ok-first.first _ _ _ (view_of c.begin.new.self) (view_of c.find_asserting.new.self) (view_of c.minimize.new.self) c.begin.ensures.consistent c.requires.level c.in_ok-begin.ensures.begun c.in_ok-first.ensures c.in_ok-minimize.ensures _ lits refl refl (ap chain_of c.new-rest.ensures)
 
 pub returns-clause-asserting : goal.returns-clause-asserting
 returns-clause-asserting c =
@@ -59,9 +57,9 @@ returns-clause-asserting c =
     let lits = c.in_ok-lits.ensures ∙ ap (λ (lower : Clause). c.in_ok-first.first ∷ lower) c.as_slice.ensures.value in
     let back = subst (λ (lower : Clause). IsGreatestOf (map (level_at h.trail) lower) c.greatest_level-back.result) c.as_slice-2.ensures.value c.greatest_level-back.ensures in
     let glue = subst (λ (d : Clause). IsNumberOfDifferent (map (level_at h.trail) d) c.in_ok-glue.glue) c.as_slice-3.ensures c.in_ok-glue.ensures in
-    let falsified = learnt-false h c.args.conflict.0 c.in_ok-first.first _ _ _ (view_of c.begin.new.self) (view_of c.find_asserting.new.self) (view_of c.resolve_root.new.self) ok c.requires.level c.in_ok-begin.ensures.begun c.in_ok-first.ensures c.in_ok-resolve_root.ensures in
-    let lower = lower-levels h c.args.conflict.0 c.in_ok-first.first _ _ _ (view_of c.begin.new.self) (view_of c.find_asserting.new.self) (view_of c.resolve_root.new.self) ok c.requires.level c.in_ok-begin.ensures.begun c.in_ok-first.ensures c.in_ok-resolve_root.ensures in
-    learnt-asserting h c.args.conflict.0 c.in_ok-first.first _ _ _ (view_of c.begin.new.self) (view_of c.find_asserting.new.self) (view_of c.resolve_root.new.self) ok c.requires.level c.in_ok-begin.ensures.begun c.in_ok-first.ensures c.in_ok-resolve_root.ensures _ lits back glue (c.conflicts_above_the_root.ensures.new h c.in_ok-first.first _ ok c.requires.level falsified lower)
+    let falsified = learnt-false h c.args.conflict.0 c.in_ok-first.first _ _ _ (view_of c.begin.new.self) (view_of c.find_asserting.new.self) (view_of c.minimize.new.self) ok c.requires.level c.in_ok-begin.ensures.begun c.in_ok-first.ensures c.in_ok-minimize.ensures in
+    let lower = lower-levels h c.args.conflict.0 c.in_ok-first.first _ _ _ (view_of c.begin.new.self) (view_of c.find_asserting.new.self) (view_of c.minimize.new.self) ok c.requires.level c.in_ok-begin.ensures.begun c.in_ok-first.ensures c.in_ok-minimize.ensures in
+    learnt-asserting h c.args.conflict.0 c.in_ok-first.first _ _ _ (view_of c.begin.new.self) (view_of c.find_asserting.new.self) (view_of c.minimize.new.self) ok c.requires.level c.in_ok-begin.ensures.begun c.in_ok-first.ensures c.in_ok-minimize.ensures _ lits back glue (c.conflicts_above_the_root.ensures.new h c.in_ok-first.first _ ok c.requires.level falsified lower)
 
 pub returns-in_err-begin-clause-derived : goal.returns-in_err-begin-clause-derived
 returns-in_err-begin-clause-derived c = IfOk-from_err _ _ c.from_residual.ensures.0
@@ -81,14 +79,14 @@ returns-in_err-first-clause-begins c = IfOk-from_err _ _ c.from_residual-in_err-
 pub returns-in_err-first-clause-asserting : goal.returns-in_err-first-clause-asserting
 returns-in_err-first-clause-asserting c = IfOk-from_err _ _ c.from_residual-in_err-first.ensures.0
 
-pub returns-in_err-resolve_root-clause-derived : goal.returns-in_err-resolve_root-clause-derived
-returns-in_err-resolve_root-clause-derived c = IfOk-from_err _ _ c.from_residual-in_err-resolve_root.ensures.0
+pub returns-in_err-minimize-clause-derived : goal.returns-in_err-minimize-clause-derived
+returns-in_err-minimize-clause-derived c = IfOk-from_err _ _ c.from_residual-in_err-minimize.ensures.0
 
-pub returns-in_err-resolve_root-clause-begins : goal.returns-in_err-resolve_root-clause-begins
-returns-in_err-resolve_root-clause-begins c = IfOk-from_err _ _ c.from_residual-in_err-resolve_root.ensures.0
+pub returns-in_err-minimize-clause-begins : goal.returns-in_err-minimize-clause-begins
+returns-in_err-minimize-clause-begins c = IfOk-from_err _ _ c.from_residual-in_err-minimize.ensures.0
 
-pub returns-in_err-resolve_root-clause-asserting : goal.returns-in_err-resolve_root-clause-asserting
-returns-in_err-resolve_root-clause-asserting c = IfOk-from_err _ _ c.from_residual-in_err-resolve_root.ensures.0
+pub returns-in_err-minimize-clause-asserting : goal.returns-in_err-minimize-clause-asserting
+returns-in_err-minimize-clause-asserting c = IfOk-from_err _ _ c.from_residual-in_err-minimize.ensures.0
 
 pub returns-in_err-lits-clause-derived : goal.returns-in_err-lits-clause-derived
 returns-in_err-lits-clause-derived c = IfOk-from_err _ _ c.from_residual-in_err-lits.ensures.0

@@ -1,0 +1,4 @@
+use Rattle.craig_analyze.proofs.redundancy.Redundancy.+follows.Given as goal
+
+abbrev pub decreases-follows : goal.decreases-follows
+decreases-follows l = l.depth

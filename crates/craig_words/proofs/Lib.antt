@@ -5,3 +5,5 @@ mod MatchLemmas
 mod ParseLemmas
 mod SettingsLemmas
 mod UnreadableLemmas
+mod RunLemmas
+mod SetLemmas

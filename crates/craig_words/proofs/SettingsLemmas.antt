@@ -25,7 +25,7 @@ are_good pieces =
 
 -- ---- each piece is allowed where the values of all names are read
 
-absent : (name : List ℕ) (pieces : List Piece) → has_name name pieces ≡ false → value_of name pieces ≡ None
+pub absent : (name : List ℕ) (pieces : List Piece) → has_name name pieces ≡ false → value_of name pieces ≡ None
 absent name [] e = refl
 absent name (piece ∷ pieces) e =
     let parts = or_false (bytes_eq piece.name name) (has_name name pieces) e in

@@ -11,7 +11,9 @@ use Rattle.craig_words.specs.declared.words.WordsFault.TheVariants.{Refused, NoM
 
 -- a name, and the value that is given for it
 pub record Piece : Type 0 where
+  -- the name of an option, without its minus signs
   pub name : List ℕ
+  -- the value, as it stands
   pub value : List ℕ
 
 -- ---- which pieces the words are

@@ -11,3 +11,5 @@ mod script;
 mod script_texts;
 #[cfg(test)]
 mod top;
+#[cfg(test)]
+mod words;

@@ -10,7 +10,7 @@ use Rattle.clap.specs.Kinds.{Kinds, or_else}
 use Rattle.clap.specs.declared.error.kind.ErrorKind.TheVariants as kind
 use Rattle.craig_words.specs.CommandLine.{Piece, after_signs, name_and_value, has_name}
 use Rattle.craig_words.specs.ClapCommand.{is_known, is_readable}
-use Rattle.craig_words.proofs.PieceLemmas.{bytes_same}
+use Rattle.craig_words.proofs.PieceLemmas.{bytes_same, false_of_not}
 use Rattle.craig_words.proofs.ClapWalkLemmas.{rules, shape, Place, between, behind, held_at, walk_at, walk_with, with_last, clashes, knows, waiting_at, known_id, known_long, unknown_long, settle_fault-is, settled_rows-is, wants_fault, use_fault-is, used_new, rule_named}
 
 -- ---- what a word is
@@ -33,24 +33,22 @@ pub record IsBare (word : Text) : Type 0 where
   pub apart : bytes_eq word (45 ∷ 45 ∷ []) ≡ false
   pub read : after_signs word ≡ None
 
-abbrev pub Kind : Text → Type 0
-Kind word = ((name : Text) × (value : Option Text) × IsNamed word name value) ⊎ IsBare word
+-- a word that may be given to clap
+abbrev pub Form : Text → Type 0
+Form word = ((name : Text) × (value : Option Text) × IsNamed word name value) ⊎ IsBare word
 
-not_true : (b : Bool) → not b ≡ true → b ≡ false
-not_true true e = absurd (true≢false (sym e))
-not_true false e = refl
-
-pub kind_of_word : (word : Text) → is_readable word ≡ true → Kind word
-kind_of_word [] e = inr (record { long = refl; short = refl; apart = refl; read = refl })
-kind_of_word (x ∷ []) e =
-    let other : (x == 45) ≡ false = not_true (x == 45) e in
+-- each such word has one of the two forms
+pub form_of_word : (word : Text) → is_readable word ≡ true → Form word
+form_of_word [] e = inr (record { long = refl; short = refl; apart = refl; read = refl })
+form_of_word (x ∷ []) e =
+    let other : (x == 45) ≡ false = false_of_not (x == 45) e in
     inr (record { long = rw other refl; short = rw other refl; apart = rw other refl; read = refl })
-kind_of_word (x ∷ y ∷ []) e =
-    let other : (x == 45) ≡ false = not_true (x == 45) e in
+form_of_word (x ∷ y ∷ []) e =
+    let other : (x == 45) ≡ false = false_of_not (x == 45) e in
     inr (record { long = rw other refl; short = rw other refl; apart = rw other refl; read = rw other refl })
-kind_of_word (x ∷ y ∷ z ∷ rest) e = go (x == 45) (y == 45) refl refl e
+form_of_word (x ∷ y ∷ z ∷ rest) e = go (x == 45) (y == 45) refl refl e
   where
-    go : (a b : Bool) → (x == 45) ≡ a → (y == 45) ≡ b → (not a || b) ≡ true → Kind (x ∷ y ∷ z ∷ rest)
+    go : (a b : Bool) → (x == 45) ≡ a → (y == 45) ≡ b → (not a || b) ≡ true → Form (x ∷ y ∷ z ∷ rest)
     go true false first second h = absurd (true≢false (sym h))
     go true true first second h = inl (
       (name_and_value (z ∷ rest)).0,
@@ -77,6 +75,7 @@ named_turn pieces (between last) word name value h =
 named_turn pieces (behind n) word name value h =
     let apart = h.apart in let long = h.long in rw (apart, long) refl
 
+-- where the walk stands behind it
 named_walked : (pieces : List Piece) (place : Place) (word name : Text) (value : Option Text) → IsNamed word name value
     → walked rules [] (walk_at pieces place) word
     ≡ after_step rules word (walk_at pieces place) (long_word rules (waiting_at place) word name value (held_at pieces place)).0
@@ -112,6 +111,7 @@ clash_turn pieces last word name None h known e clash =
 clash_turn pieces last word name (Some value) h known e clash =
     named_turn pieces (between last) word name (Some value) h ∙ rw (known_long name e, settle_fault-is pieces last known, clash) refl
 
+-- a first list of kinds, with nothing behind it
 nothing_else : (b : Bool) (kinds : Kinds) → or_else (cond b kinds []) [] ≡ cond b kinds []
 nothing_else true [] = refl
 nothing_else true (k ∷ kinds) = refl
@@ -126,6 +126,7 @@ given_turn pieces last word name value h known e new =
     ∙ rw (known_long name e, settle_fault-is pieces last known, new, settled_rows-is pieces last known new)
     (ap (λ k. or_else k []) (use_fault-is name value (with_last pieces last)) ∙ nothing_else (has_name name (with_last pieces last)) (kind.ArgumentConflict ∷ []))
 
+-- and where the walk stands then
 pub given_walked : (pieces : List Piece) (last : Option Piece) (word name value : Text) → IsNamed word name (Some value) → knows last ≡ true → is_known name ≡ true
     → clashes pieces last ≡ false → has_name name (with_last pieces last) ≡ false
     → walked rules [] (walk_at pieces (between last)) word ≡ walk_at (with_last pieces last ++ record { name = name; value = value } ∷ []) (between None)
@@ -141,6 +142,7 @@ pub opened_turn : (pieces : List Piece) (last : Option Piece) (word name : Text)
 opened_turn pieces last word name h known e new =
     named_turn pieces (between last) word name None h ∙ rw (known_long name e, settle_fault-is pieces last known, new) refl
 
+-- and where the walk stands then
 pub opened_walked : (pieces : List Piece) (last : Option Piece) (word name : Text) → IsNamed word name None → knows last ≡ true → is_known name ≡ true
     → clashes pieces last ≡ false
     → walked rules [] (walk_at pieces (between last)) word ≡ walk_at (with_last pieces last) (behind name)
@@ -149,13 +151,16 @@ opened_walked pieces last word name h known e new =
 
 -- ---- a word without a name
 
+-- between pieces it is one word too many
 pub stray_turn : (pieces : List Piece) (last : Option Piece) (word : Text) → IsBare word
     → turn_fault shape [] (walk_at pieces (between last)) word ≡ kind.UnknownArgument ∷ []
 stray_turn pieces last word h = let apart = h.apart in let long = h.long in let short = h.short in rw (apart, long, short) refl
 
+-- behind a name it is its value
 pub value_turn : (pieces : List Piece) (name word : Text) → IsBare word → turn_fault shape [] (walk_at pieces (behind name)) word ≡ []
 value_turn pieces name word h = let apart = h.apart in let long = h.long in let short = h.short in rw (apart, long, short) refl
 
+-- and where the walk stands then
 pub value_walked : (pieces : List Piece) (name word : Text) → IsBare word → is_known name ≡ true
     → walked rules [] (walk_at pieces (behind name)) word ≡ walk_at pieces (between (Some (record { name = name; value = word })))
 unfolding walked

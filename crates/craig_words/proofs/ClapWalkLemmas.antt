@@ -36,6 +36,7 @@ shape = record (new_shape (codes "craig")) {
   is_built = true;
 }
 
+-- building adds to the command what `shape` says
 pub is_built_so : built words_app ≡ record { top = shape; subs = [] }
 is_built_so = refl
 
@@ -49,6 +50,7 @@ by_long (k ∷ ks) name = go (bytes_eq k name) (same_bytes k name) (by_long ks n
     go true same e = ap (λ n. Some (rule_named n)) (same refl)
     go false same e = e
 
+-- the same by its id
 pub by_id : (names : List Text) (name : Text) → arg_by_id (map rule_named names) name ≡ cond (list_any (λ known. bytes_eq known name) names) (Some (rule_named name)) None
 by_id [] name = refl
 by_id (k ∷ ks) name = go (bytes_eq k name) (same_bytes k name) (by_id ks name)
@@ -58,12 +60,15 @@ by_id (k ∷ ks) name = go (bytes_eq k name) (same_bytes k name) (by_id ks name)
     go true same e = ap (λ n. Some (rule_named n)) (same refl)
     go false same e = e
 
+-- an option by its name
 pub known_long : (name : Text) → is_known name ≡ true → arg_by_long rules name ≡ Some (rule_named name)
 known_long name e = by_long option_names name ∙ ap (λ b. cond b (Some (rule_named name)) None) e
 
+-- no option has a name that isn't known
 pub unknown_long : (name : Text) → is_known name ≡ false → arg_by_long rules name ≡ None
 unknown_long name e = by_long option_names name ∙ ap (λ b. cond b (Some (rule_named name)) None) e
 
+-- an option by its id
 pub known_id : (name : Text) → is_known name ≡ true → arg_by_id rules name ≡ Some (rule_named name)
 known_id name e = by_id option_names name ∙ ap (λ b. cond b (Some (rule_named name)) None) e
 
@@ -79,12 +84,15 @@ row_for piece = record {
   reading = reading.AsWritten;
 }
 
+-- the rows of pieces
 abbrev pub rows_for : List Piece → List Row
 rows_for = map row_for
 
+-- a name has a row where a piece has it
 pub has_row-pieces : (name : Text) (pieces : List Piece) → has_row name (rows_for pieces) ≡ has_name name pieces
 has_row-pieces name pieces = sym (list_any-map (λ (r : Row). bytes_eq r.id name) row_for pieces)
 
+-- a row that isn't there is put at the end
 at_row_new : (name : Text) (change : Row → List Row) (missing : List Row) (pieces : List Piece) → has_name name pieces ≡ false
     → at_row name change missing (rows_for pieces) ≡ rows_for pieces ++ missing
 at_row_new name change missing [] e = refl
@@ -119,10 +127,12 @@ pub data Place : Type 0 where
   between : Option Piece → Place
   behind : Text → Place
 
+-- what takes the next word there
 abbrev pub waiting_at : Place → Waiting
 waiting_at (between last) = idle
 waiting_at (behind name) = option name
 
+-- the option that isn't used yet there, with its values
 abbrev pub pending_at : Place → Option (Text × List Text)
 pending_at (between last) = option_map (λ piece. (piece.name, piece.value ∷ [])) last
 pending_at (behind name) = Some (name, [])
@@ -137,13 +147,16 @@ abbrev pub with_last : List Piece → Option Piece → List Piece
 with_last pieces None = pieces
 with_last pieces (Some piece) = pieces ++ piece ∷ []
 
+-- the pieces up to a place
 abbrev pub all_at : List Piece → Place → List Piece
 all_at pieces (between last) = with_last pieces last
 all_at pieces (behind name) = pieces
 
+-- what is held there
 abbrev pub held_at : List Piece → Place → Held
 held_at pieces place = record { rows = rows_for pieces; pending = pending_at place; skip = 0 }
 
+-- a walk that stands there with these rows
 abbrev pub walk_with : List Row → Place → Walk
 walk_with rows place = record {
   held = record { rows = rows; pending = pending_at place; skip = 0 };
@@ -153,6 +166,7 @@ walk_with rows place = record {
   stopped = None;
 }
 
+-- a walk that stands there with these pieces
 abbrev pub walk_at : List Piece → Place → Walk
 walk_at pieces place = walk_with (rows_for pieces) place
 
@@ -161,6 +175,7 @@ abbrev pub knows : Option Piece → Bool
 knows None = true
 knows (Some piece) = is_known piece.name
 
+-- whether the name that a place speaks of is known
 abbrev pub place_known : Place → Bool
 place_known (between last) = knows last
 place_known (behind name) = is_known name
@@ -170,16 +185,19 @@ abbrev pub clashes : List Piece → Option Piece → Bool
 clashes pieces None = false
 clashes pieces (Some piece) = has_name piece.name pieces
 
+-- the last piece, used: the fault that this may have
 pub settle_fault-is : (pieces : List Piece) (last : Option Piece) → knows last ≡ true
     → settle_fault rules false (held_at pieces (between last)) ≡ cond (clashes pieces last) (kind.ArgumentConflict ∷ []) []
 settle_fault-is pieces None e = refl
 settle_fault-is pieces (Some piece) e =
     ap (λ o. option_map_or (λ a. use_fault false a (piece.value ∷ []) (rows_for pieces)) o []) (known_id piece.name e) ∙ use_fault-is piece.name piece.value pieces
 
+-- and the rows that it leaves
 pub settled_rows-is : (pieces : List Piece) (last : Option Piece) → knows last ≡ true → clashes pieces last ≡ false
     → settled_rows rules (pending_at (between last)) (rows_for pieces) ≡ rows_for (with_last pieces last)
 settled_rows-is pieces None e new = refl
 settled_rows-is pieces (Some piece) e new = rw (known_id piece.name e) (used_new piece.name piece.value pieces new)
 
+-- an option without a value has a fault
 pub wants_fault : (pieces : List Piece) (name : Text) → is_known name ≡ true → settle_fault rules false (held_at pieces (behind name)) ≡ kind.InvalidValue ∷ []
 wants_fault pieces name e = ap (λ o. option_map_or (λ a. use_fault false a [] (rows_for pieces)) o []) (known_id name e)

@@ -1,5 +1,6 @@
 -- Where clap takes the words, and which matches it has: those of their pieces.
 use Rattle.std.proofs.Common.{◌≡◌, ◌∙◌, Bool, cond, true, false, ◌&&◌, List, [], ◌∷◌, ◌++◌, Option, Some, None, refl, sym, ap, true≢false, append-nil, append_assoc, inl, inr}
+use Rattle.std.proofs.lemmas.Bool.{and_parts}
 use Rattle.std.specs.List.{list_all, fold}
 use Rattle.std.specs.Prelude.{◌⊎◌}
 use Rattle.std.specs.Option.{option_map}
@@ -10,9 +11,9 @@ use Rattle.clap.specs.declared.error.kind.ErrorKind.{ErrorKind}
 use Rattle.clap.specs.declared.error.kind.ErrorKind.TheVariants as kind
 use Rattle.craig_words.specs.CommandLine.{Piece, name_and_value, with_piece, pieces_from, pieces_after, has_name, are_different, is_allowed}
 use Rattle.craig_words.specs.ClapCommand.{is_known, is_readable}
-use Rattle.craig_words.proofs.PieceLemmas.{are_accepted, and_true, front, not_allowed, signed_refused, twice_refused, unknown_refused, one_more_different, some≢none}
+use Rattle.craig_words.proofs.PieceLemmas.{are_accepted, front, not_allowed, signed_refused, twice_refused, unknown_refused, one_more_different, some≢none}
 use Rattle.craig_words.proofs.ClapWalkLemmas.{rules, shape, Place, between, behind, walk_at, with_last, all_at, clashes, knows, place_known, waits_at, rows_for, settle_fault-is, settled_rows-is, wants_fault}
-use Rattle.craig_words.proofs.ClapStepLemmas.{IsNamed, IsBare, Kind, kind_of_word, unknown_turn, wanting_turn, clash_turn, given_turn, given_walked, opened_turn, opened_walked, stray_turn, value_turn, value_walked}
+use Rattle.craig_words.proofs.ClapStepLemmas.{IsNamed, IsBare, Form, form_of_word, unknown_turn, wanting_turn, clash_turn, given_turn, given_walked, opened_turn, opened_walked, stray_turn, value_turn, value_walked}
 
 -- the fault of a walk over the words
 abbrev pub fault : Walk → List Text → Kinds
@@ -38,17 +39,20 @@ pub record IsFaulty (before : List Piece) (w : Walk) (words : List Text) (waits 
   pub loud : fault w words ≡ first ∷ others
   pub refused : (pieces : List Piece) → pieces_after words waits ≡ Some pieces → are_accepted (before ++ pieces) ≡ false
 
+-- one of the two
 abbrev pub Answer : List Piece → Walk → List Text → Option Text → Type 0
 Answer before w words waits = IsTaken before w words waits ⊎ IsFaulty before w words waits
 
 -- ---- one word more in front
 
+-- the fault of the first word is that of all
 fault_here : (w : Walk) (word : Text) (words : List Text) (first : ErrorKind) → turn_fault shape [] w word ≡ first ∷ []
     → fault w (word ∷ words) ≡ first ∷ []
 unfolding walk_fault
 fault_here w word words first e =
     ap (λ k. or_else (or_else k (walk_fault shape [] (walked rules [] w word) words)) (settle_fault rules false (fold (walked rules []) (walked rules [] w word) words).held)) e
 
+-- where the first word has none, it is that of the others
 fault_later : (w next : Walk) (word : Text) (words : List Text) → turn_fault shape [] w word ≡ [] → walked rules [] w word ≡ next
     → fault w (word ∷ words) ≡ fault next words
 unfolding walk_fault
@@ -56,9 +60,11 @@ fault_later w next word words e is =
     ap (λ k. or_else (or_else k (walk_fault shape [] (walked rules [] w word) words)) (settle_fault rules false (fold (walked rules []) (walked rules [] w word) words).held)) e
     ∙ ap (λ (v : Walk). fault v words) is
 
+-- and the rows are theirs
 rows_later : (w next : Walk) (word : Text) (words : List Text) → walked rules [] w word ≡ next → last_rows w (word ∷ words) ≡ last_rows next words
 rows_later w next word words is = ap (λ (v : Walk). last_rows v words) is
 
+-- one piece more, in front of others or behind the ones before
 assoc : (before : List Piece) (piece : Piece) (after : List Piece) → (before ++ piece ∷ []) ++ after ≡ before ++ piece ∷ after
 assoc before piece after = append_assoc before (piece ∷ []) after
 
@@ -118,12 +124,14 @@ clash_refused : (before : List Piece) (last : Option Piece) (pieces : List Piece
 clash_refused before None pieces e = absurd (true≢false (sym e))
 clash_refused before (Some piece) pieces e = ap are_accepted (assoc before piece pieces) ∙ twice_refused before piece pieces e
 
+-- a last piece that doesn't clash is different from the others
 with_last_different : (before : List Piece) (last : Option Piece) → are_different before ≡ true → clashes before last ≡ false → are_different (with_last before last) ≡ true
 with_last_different before None d e = d
 with_last_different before (Some piece) d e = one_more_different before piece d e
 
 -- ---- all words
 
+-- no words are left between two pieces
 end_between : (before : List Piece) (last : Option Piece) → are_different before ≡ true → knows last ≡ true
     → Answer (with_last before last) (walk_at before (between last)) [] None
 unfolding walk_fault
@@ -145,6 +153,7 @@ end_between before last d known = go (clashes before last) refl
       rows = settled_rows-is before last known e ∙ ap rows_for (sym (append-nil (with_last before last)));
     })
 
+-- no words are left behind a name
 end_behind : (before : List Piece) (name : Text) → is_known name ≡ true → Answer before (walk_at before (behind name)) [] (Some name)
 unfolding walk_fault
 end_behind before name known = inr (record {
@@ -244,6 +253,7 @@ named_behind word words before n name value h known k e = inr (record {
     turn true is = wanting_turn before n word name value h known is
     turn false is = unknown_turn before (behind n) word name value h is
 
+-- a value behind a name
 bare_behind : (word : Text) (words : List Text) → Later words → (before : List Piece) (n : Text) → IsBare word → are_different before ≡ true → is_known n ≡ true
     → Answer before (walk_at before (behind n)) (word ∷ words) (Some n)
 bare_behind word words later before n h d known =
@@ -255,16 +265,16 @@ pub answer : (words : List Text) → list_all is_readable words ≡ true → Lat
 answer [] readable before (between last) d known = end_between before last d known
 answer [] readable before (behind name) d known = end_behind before name known
 answer (word ∷ words) readable before (between last) d known =
-    let parts = and_true (is_readable word) (list_all is_readable words) readable in
-    let word_kind : Kind word = kind_of_word word parts.0 in
-    elim word_kind [
+    let parts = and_parts (is_readable word) (list_all is_readable words) readable in
+    let form : Form word = form_of_word word parts.0 in
+    elim form [
       | inl h ↦ named_between word words (answer words parts.1) before last d known h.0 h.1 h.2 (is_known h.0) (clashes before last) refl refl
       | inr h ↦ bare_between word words (answer words parts.1) before last d known h
     ]
 answer (word ∷ words) readable before (behind name) d known =
-    let parts = and_true (is_readable word) (list_all is_readable words) readable in
-    let word_kind : Kind word = kind_of_word word parts.0 in
-    elim word_kind [
+    let parts = and_parts (is_readable word) (list_all is_readable words) readable in
+    let form : Form word = form_of_word word parts.0 in
+    elim form [
       | inl h ↦ named_behind word words before name h.0 h.1 h.2 known (is_known h.0) refl
       | inr h ↦ bare_behind word words (answer words parts.1) before name h d known
     ]

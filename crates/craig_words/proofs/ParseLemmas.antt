@@ -1,5 +1,6 @@
 -- A whole parse: what an answer of clap says of the words.
 use Rattle.std.proofs.Common.{◌≡◌, ◌∙◌, Bool, cond, true, false, List, [], ◌∷◌, map, Option, Some, None, Result, Ok, Err, refl, sym, ap, subst, inl, inr}
+use Rattle.std.proofs.Math.Bool.{or-true}
 use Rattle.std.specs.List.{list_all, fold, find}
 use Rattle.std.specs.Prelude.{option_and_then, slice_get}
 use Rattle.std.specs.Option.{option_map, is_some}
@@ -18,7 +19,7 @@ use Rattle.clap.specs.declared.error.kind.ErrorKind.{ErrorKind}
 use Rattle.clap.specs.declared.parser.matches.ArgMatches.{ArgMatches}
 use Rattle.craig_words.specs.CommandLine.{Piece, pieces_of, settings_of, set_by, value_of, words_read}
 use Rattle.craig_words.specs.ClapCommand.{HasPieces, IsMatchOf, is_readable, option_names, words_app}
-use Rattle.craig_words.proofs.PieceLemmas.{are_accepted, cond_same, or_true}
+use Rattle.craig_words.proofs.PieceLemmas.{are_accepted, cond_same}
 use Rattle.craig_words.proofs.ClapWalkLemmas.{rules, rule_named, shape, between, walk_at, row_for, rows_for}
 use Rattle.craig_words.proofs.MatchLemmas.{Answer, answer, fault, last_rows}
 
@@ -31,13 +32,15 @@ no_default_fault : (rows : List Row) (names : List Text) → defaults_fault rows
 unfolding defaults_fault
 no_default_fault rows [] = refl
 no_default_fault rows (k ∷ ks) =
-    let always = or_true (has_row k rows) in
+    let always = or-true (has_row k rows) in
     rw always (no_default_fault (with_default rows (rule_named k)) ks)
 
+-- and none adds a row
 no_default_rows : (names : List Text) (rows : List Row) → fold with_default rows (map rule_named names) ≡ rows
 no_default_rows [] rows = refl
 no_default_rows (k ∷ ks) rows = ap (λ (r : List Row). fold with_default r (map rule_named ks)) (cond_same (has_row k rows) rows) ∙ no_default_rows ks rows
 
+-- nothing behind a list of kinds
 nothing_more : (kinds : Kinds) → or_else kinds [] ≡ kinds
 nothing_more [] = refl
 nothing_more (k ∷ kinds) = refl
@@ -49,12 +52,14 @@ only_walk : (walks settles : Kinds) (stop : Option (Text × List Text)) (rows af
 only_walk walks settles None rows after = rw (no_default_fault rows option_names) (ap (or_else walks) (nothing_more settles))
 only_walk walks settles (Some p) rows after = rw (no_default_fault rows option_names) (ap (or_else walks) (nothing_more settles))
 
+-- the fault of a parse is that of its walk
 whole_fault : (words : List Text) → fault_of words_app words ≡ fault (walk_at [] (between None)) words
 whole_fault words =
     let start : Walk = walk_at [] (between None) in
     only_walk (walk_fault shape [] start words) (settle_fault rules false (fold (walked rules []) start words).held) (fold (walked rules []) start words).stopped
     (last_rows start words) (matches_of words_app words)
 
+-- the matches of a parse are the rows of its walk
 whole_rows : (words : List Text) → matches_of words_app words ≡ last_rows (walk_at [] (between None)) words
 whole_rows words = no_default_rows option_names (last_rows (walk_at [] (between None)) words)
 
@@ -86,6 +91,7 @@ taken words matches readable rows quiet =
       | inr a ↦ let bad : [] ≡ a.first ∷ a.others = sym quiet ∙ whole_fault words ∙ a.loud in absurd cc
     ]
 
+-- pieces that are not accepted set nothing
 pub no_settings : (pieces : Option (List Piece)) → ((those : List Piece) → pieces ≡ Some those → are_accepted those ≡ false) → option_and_then settings_of pieces ≡ None
 no_settings None refused = refl
 no_settings (Some those) refused = ap (λ b. cond b (Some (set_by those)) None) (refused those refl)

@@ -1,5 +1,7 @@
 -- Pieces: what a refused one does to those that it stands among, and how they grow by one.
 use Rattle.std.proofs.Common.{◌≡◌, ◌∙◌, ℕ, Bool, cond, true, false, not, ◌&&◌, ◌||◌, List, [], ◌∷◌, ◌++◌, Option, Some, None, codes, refl, sym, ap, true≢false}
+use Rattle.std.proofs.lemmas.Bool.{and_parts}
+use Rattle.std.proofs.Math.Bool.{and-false, or-true}
 use Rattle.std.specs.List.{list_all}
 use Rattle.std.specs.Option.{is_some}
 use Rattle.std.specs.Str.{bytes_eq}
@@ -16,26 +18,25 @@ pub cond_same : {X : Type 0} (b : Bool) (x : X) → cond b x x ≡ x
 cond_same true x = refl
 cond_same false x = refl
 
+-- a choice that fails, by its parts
 pub or_false : (a b : Bool) → (a || b) ≡ false → (a ≡ false) × (b ≡ false)
 or_false true b e = absurd (true≢false e)
 or_false false b e = (refl, e)
 
-pub and_true : (a b : Bool) → (a && b) ≡ true → (a ≡ true) × (b ≡ true)
-and_true true b e = (refl, e)
-and_true false b e = absurd (true≢false (sym e))
-
-pub and_false : (a : Bool) → (a && false) ≡ false
-and_false true = refl
-and_false false = refl
+-- a test whose negation is true
+pub false_of_not : (b : Bool) → not b ≡ true → b ≡ false
+false_of_not true e = absurd (true≢false (sym e))
+false_of_not false e = refl
 
 -- a piece that isn't allowed, among others
 pub all_fails : (p : Piece → Bool) (before : List Piece) (piece : Piece) (after : List Piece) → p piece ≡ false → list_all p (before ++ piece ∷ after) ≡ false
 all_fails p [] piece after e = ap (λ b. b && list_all p after) e
-all_fails p (x ∷ before) piece after e = ap (λ b. p x && b) (all_fails p before piece after e) ∙ and_false (p x)
+all_fails p (x ∷ before) piece after e = ap (λ b. p x && b) (all_fails p before piece after e) ∙ and-false (p x)
 
+-- it refuses all pieces
 pub not_allowed : (before : List Piece) (piece : Piece) (after : List Piece) → is_allowed piece ≡ false → are_accepted (before ++ piece ∷ after) ≡ false
 not_allowed before piece after e =
-    ap (λ b. are_different (before ++ piece ∷ after) && b) (all_fails is_allowed before piece after e) ∙ and_false (are_different (before ++ piece ∷ after))
+    ap (λ b. are_different (before ++ piece ∷ after) && b) (all_fails is_allowed before piece after e) ∙ and-false (are_different (before ++ piece ∷ after))
 
 -- a name that stands before
 has_name-append : (name : List ℕ) (a b : List Piece) → has_name name (a ++ b) ≡ (has_name name a || has_name name b)
@@ -46,16 +47,15 @@ has_name-append name (p ∷ a) b = go (bytes_eq p.name name) (has_name-append na
     go true e = refl
     go false e = e
 
+-- a text is the same as itself
 pub bytes_same : (x : List ℕ) → bytes_eq x x ≡ true
 bytes_same x = (bytes_eq-Decides x x).1 refl
 
+-- texts whose bytes are the same
 pub same_bytes : (x y : List ℕ) → bytes_eq x y ≡ true → x ≡ y
 same_bytes x y e = (bytes_eq-Decides x y).0 e
 
-pub or_true : (a : Bool) → (a || true) ≡ true
-or_true true = refl
-or_true false = refl
-
+-- a name that stands twice
 pub twice : (before : List Piece) (piece : Piece) (after : List Piece) → has_name piece.name before ≡ true → are_different (before ++ piece ∷ after) ≡ false
 twice [] piece after e = absurd (true≢false (sym e))
 twice (x ∷ before) piece after e = go (bytes_eq x.name piece.name) refl e (twice before piece after)
@@ -63,14 +63,15 @@ twice (x ∷ before) piece after e = go (bytes_eq x.name piece.name) refl e (twi
     there : bytes_eq x.name piece.name ≡ true → has_name x.name (before ++ piece ∷ after) ≡ true
     there same =
         let is : bytes_eq piece.name x.name ≡ true = ap (λ n. bytes_eq n x.name) (sym (same_bytes x.name piece.name same)) ∙ bytes_same x.name in
-        has_name-append x.name before (piece ∷ after) ∙ ap (λ b. has_name x.name before || (b || has_name x.name after)) is ∙ or_true (has_name x.name before)
+        has_name-append x.name before (piece ∷ after) ∙ ap (λ b. has_name x.name before || (b || has_name x.name after)) is ∙ or-true (has_name x.name before)
 
     go : (b : Bool) → bytes_eq x.name piece.name ≡ b → (b || has_name piece.name before) ≡ true
         → (has_name piece.name before ≡ true → are_different (before ++ piece ∷ after) ≡ false)
         → (not (has_name x.name (before ++ piece ∷ after)) && are_different (before ++ piece ∷ after)) ≡ false
     go true same h later = ap (λ b. not b && are_different (before ++ piece ∷ after)) (there same)
-    go false same h later = ap (λ b. not (has_name x.name (before ++ piece ∷ after)) && b) (later h) ∙ and_false (not (has_name x.name (before ++ piece ∷ after)))
+    go false same h later = ap (λ b. not (has_name x.name (before ++ piece ∷ after)) && b) (later h) ∙ and-false (not (has_name x.name (before ++ piece ∷ after)))
 
+-- it refuses all pieces
 pub twice_refused : (before : List Piece) (piece : Piece) (after : List Piece) → has_name piece.name before ≡ true → are_accepted (before ++ piece ∷ after) ≡ false
 twice_refused before piece after e = ap (λ b. b && list_all is_allowed (before ++ piece ∷ after)) (twice before piece after e)
 
@@ -78,7 +79,7 @@ twice_refused before piece after e = ap (λ b. b && list_all is_allowed (before 
 pub one_more_different : (pieces : List Piece) (piece : Piece) → are_different pieces ≡ true → has_name piece.name pieces ≡ false → are_different (pieces ++ piece ∷ []) ≡ true
 one_more_different [] piece d new = refl
 one_more_different (x ∷ pieces) piece d new =
-    let parts = and_true (not (has_name x.name pieces)) (are_different pieces) d in
+    let parts = and_parts (not (has_name x.name pieces)) (are_different pieces) d in
     let news = or_false (bytes_eq x.name piece.name) (has_name piece.name pieces) new in
     let other : bytes_eq piece.name x.name ≡ false = unlike (bytes_eq piece.name x.name) refl news.0 in
     let absent : has_name x.name (pieces ++ piece ∷ []) ≡ false =
@@ -96,6 +97,7 @@ one_more_different (x ∷ pieces) piece d new =
 
 -- ---- the first piece
 
+-- nothing isn't something
 pub some≢none : {X : Type 0} (x : X) → None ≡ Some x → ⊥
 some≢none x e = true≢false (sym (ap is_some e))
 
@@ -113,6 +115,7 @@ unknown_name false true d f x y z w e = absurd (true≢false e)
 unknown_name false false true f x y z w e = absurd (true≢false e)
 unknown_name false false false true x y z w e = absurd (true≢false e)
 
+-- in which order texts are compared makes no difference
 bytes_eq-sym : (x y : List ℕ) → bytes_eq x y ≡ bytes_eq y x
 bytes_eq-sym x y = go (bytes_eq x y) (bytes_eq y x) refl refl
   where
@@ -122,17 +125,20 @@ bytes_eq-sym x y = go (bytes_eq x y) (bytes_eq y x) refl refl
     go true false e f = absurd (true≢false (sym ((bytes_eq-Decides y x).1 (sym (same_bytes x y e))) ∙ f))
     go false true e f = absurd (true≢false (sym ((bytes_eq-Decides x y).1 (sym (same_bytes y x f))) ∙ e))
 
+-- a name that isn't known, whatever its value
 pub unknown_refused : (name value : List ℕ) → is_known name ≡ false → is_allowed (record { name = name; value = value }) ≡ false
 unknown_refused name value e =
     unknown_name (bytes_eq name (codes "system")) (bytes_eq name (codes "format")) (bytes_eq name (codes "limit")) (bytes_eq name (codes "gen")) _ _ _ _
     (rw (bytes_eq-sym name (codes "system"), bytes_eq-sym name (codes "format"), bytes_eq-sym name (codes "limit"), bytes_eq-sym name (codes "gen")) e)
 
+-- four choices that all fail
 four : (b c d f : Bool) → cond b false (cond c false (cond d false (cond f false false))) ≡ false
 four true c d f = refl
 four false true d f = refl
 four false false true f = refl
 four false false false f = cond_same f false
 
+-- a value that begins with a minus sign, whatever its name
 pub signed_refused : (name rest : List ℕ) → is_allowed (record { name = name; value = 45 ∷ rest }) ≡ false
 signed_refused name rest =
-    simp and_false (four (bytes_eq name (codes "system")) (bytes_eq name (codes "format")) (bytes_eq name (codes "limit")) (bytes_eq name (codes "gen")))
+    simp and-false (four (bytes_eq name (codes "system")) (bytes_eq name (codes "format")) (bytes_eq name (codes "limit")) (bytes_eq name (codes "gen")))

@@ -1,11 +1,12 @@
 -- Runs of pieces, as they are written and as they are read.
 use Rattle.std.proofs.Common.{◌≡◌, ◌∙◌, ℕ, suc, ◌+◌, Bool, cond, true, false, not, ◌&&◌, ◌||◌, ◌==◌, List, [], ◌∷◌, ◌++◌, map, take, drop, Option, Some, None, refl, sym, ap, ap₂, true≢false, eqb-true, arith}
+use Rattle.std.proofs.lemmas.Bool.{and_parts}
 use Rattle.std.specs.List.{list_any, before_first, after_first, position_or_len}
 use Rattle.std.specs.Option.{option_map}
 use Rattle.craig_script.proofs.WordsLemmas.{position_or_len-go, position_or_len-stop}
 use Rattle.craig_words.specs.CommandLine.{Piece, name_and_value, with_piece, pieces_from, pieces_after, pieces_of}
 use Rattle.craig_words.specs.Runs.{Written, words_before, words_of, have_plain_names}
-use Rattle.craig_words.proofs.PieceLemmas.{and_true, or_false, front, some≢none}
+use Rattle.craig_words.proofs.PieceLemmas.{false_of_not, or_false, front, some≢none}
 
 -- the byte is an equals sign
 abbrev is_equals : ℕ → Bool
@@ -15,20 +16,24 @@ is_equals = λ byte. byte == 61
 before-go : (b : ℕ) (bs : List ℕ) → is_equals b ≡ false → before_first is_equals (b ∷ bs) ≡ b ∷ before_first is_equals bs
 before-go b bs e = ap (λ n. take n (b ∷ bs)) (position_or_len-go is_equals b bs e)
 
+-- the part before ends at an equals sign
 before-stop : (b : ℕ) (bs : List ℕ) → is_equals b ≡ true → before_first is_equals (b ∷ bs) ≡ []
 before-stop b bs e = ap (λ n. take n (b ∷ bs)) (position_or_len-stop is_equals b bs e)
 
+-- the part behind, at another byte
 after-go : (b : ℕ) (bs : List ℕ) → is_equals b ≡ false → after_first is_equals (b ∷ bs) ≡ after_first is_equals bs
 after-go b bs e =
     let n : ℕ = position_or_len is_equals bs in
     let next : suc n + 1 ≡ suc (n + 1) = omega arith in
     ap (λ k. drop (k + 1) (b ∷ bs)) (position_or_len-go is_equals b bs e) ∙ ap (λ k. drop k (b ∷ bs)) next
 
+-- the part behind, at an equals sign
 after-stop : (b : ℕ) (bs : List ℕ) → is_equals b ≡ true → after_first is_equals (b ∷ bs) ≡ bs
 after-stop b bs e = ap (λ k. drop (k + 1) (b ∷ bs)) (position_or_len-stop is_equals b bs e)
 
 -- ---- a name with its value, and one alone
 
+-- a name with its value has an equals sign
 has_equals : (name value : List ℕ) → list_any is_equals (name ++ 61 ∷ value) ≡ true
 has_equals [] value = refl
 has_equals (b ∷ name) value = go (is_equals b) (has_equals name value)
@@ -37,18 +42,21 @@ has_equals (b ∷ name) value = go (is_equals b) (has_equals name value)
     go true e = refl
     go false e = e
 
+-- its first part is the name
 before_joined : (name value : List ℕ) → list_any is_equals name ≡ false → before_first is_equals (name ++ 61 ∷ value) ≡ name
 before_joined [] value e = before-stop 61 value refl
 before_joined (b ∷ name) value e =
     let parts = or_false (is_equals b) (list_any is_equals name) e in
     before-go b (name ++ 61 ∷ value) parts.0 ∙ ap (λ rest. b ∷ rest) (before_joined name value parts.1)
 
+-- its second part is the value
 after_joined : (name value : List ℕ) → list_any is_equals name ≡ false → after_first is_equals (name ++ 61 ∷ value) ≡ value
 after_joined [] value e = after-stop 61 value refl
 after_joined (b ∷ name) value e =
     let parts = or_false (is_equals b) (list_any is_equals name) e in
     after-go b (name ++ 61 ∷ value) parts.0 ∙ after_joined name value parts.1
 
+-- a name alone has no second part
 before_alone : (name : List ℕ) → list_any is_equals name ≡ false → before_first is_equals name ≡ name
 before_alone [] e = refl
 before_alone (b ∷ name) e =
@@ -77,26 +85,25 @@ joined_again (b ∷ text) e = go (is_equals b) refl e (joined_again text)
     go false is h rest =
         ap₂ (λ (xs ys : List ℕ). xs ++ 61 ∷ ys) (before-go b text is) (after-go b text is) ∙ ap (λ t. b ∷ t) (rest h)
 
+-- both together, of a name with its value
 cut_joined : (name value : List ℕ) → list_any is_equals name ≡ false → name_and_value (name ++ 61 ∷ value) ≡ (name, Some value)
 cut_joined name value e =
     ap₂ (λ (n : List ℕ) (v : Option (List ℕ)). (n, v)) (before_joined name value e)
     (ap (λ b. cond b (Some (after_first is_equals (name ++ 61 ∷ value))) None) (has_equals name value) ∙ ap (λ v. Some v) (after_joined name value e))
 
+-- both together, of a name alone
 cut_alone : (name : List ℕ) → list_any is_equals name ≡ false → name_and_value name ≡ (name, None)
 cut_alone name e =
     ap₂ (λ (n : List ℕ) (v : Option (List ℕ)). (n, v)) (before_alone name e) (ap (λ b. cond b (Some (after_first is_equals name)) None) e)
 
 -- ---- a run is read as its pieces
 
-plain_name : (b : Bool) → not b ≡ true → b ≡ false
-plain_name true e = absurd (true≢false (sym e))
-plain_name false e = refl
-
+-- the pieces of the words of a run are its pieces
 pub run_is_read : (run : List Written) → have_plain_names run ≡ true → pieces_of (words_of run) ≡ Some (map (λ written. written.piece) run)
 run_is_read [] plain = refl
 run_is_read (written ∷ run) plain =
-    let parts = and_true (not (list_any is_equals written.piece.name)) (have_plain_names run) plain in
-    let name : list_any is_equals written.piece.name ≡ false = plain_name (list_any is_equals written.piece.name) parts.0 in
+    let parts = and_parts (not (list_any is_equals written.piece.name)) (have_plain_names run) plain in
+    let name : list_any is_equals written.piece.name ≡ false = false_of_not (list_any is_equals written.piece.name) parts.0 in
     let rest : pieces_after (words_of run) None ≡ Some (map (λ w. w.piece) run) = run_is_read run parts.1 in
     go written.is_joined name rest
   where
@@ -144,6 +151,7 @@ begun_run text words later pieces false has those =
       rest.4,
     )
 
+-- a word that begins a piece begins a run
 word_run : (word : List ℕ) (words : List (List ℕ)) → ((waits : Option (List ℕ)) (pieces : List Piece) → pieces_after words waits ≡ Some pieces → IsRun words waits pieces)
     → (pieces : List Piece) → pieces_after (word ∷ words) None ≡ Some pieces → IsRun (word ∷ words) None pieces
 word_run [] words later pieces those = absurd (some≢none pieces those)
@@ -162,6 +170,7 @@ word_run (x ∷ y ∷ text) words later pieces those = go (x == 45) (y == 45) re
     go true false first second those = absurd (some≢none pieces those)
     go false b first second those = absurd (some≢none pieces those)
 
+-- words that have pieces are a run of them
 pub read_is_run : (words : List (List ℕ)) (waits : Option (List ℕ)) (pieces : List Piece) → pieces_after words waits ≡ Some pieces → IsRun words waits pieces
 read_is_run [] None pieces those = ([], refl, refl, let same : [] ≡ pieces = cc in same)
 read_is_run [] (Some name) pieces those = absurd (some≢none pieces those)

@@ -1,6 +1,7 @@
 -- What the values of all names set, where the pieces have different names that are known.
-use Rattle.std.proofs.Common.{◌≡◌, ◌∙◌, ℕ, Bool, cond, true, false, not, ◌&&◌, ◌||◌, List, [], ◌∷◌, Option, Some, None, codes, refl, sym, ap, subst, true≢false, inl, inr}
-use Rattle.std.proofs.lemmas.Bool.{or_cases}
+use Rattle.std.proofs.Common.{◌≡◌, ◌∙◌, ℕ, Bool, cond, true, false, not, ◌&&◌, List, [], ◌∷◌, Option, Some, None, codes, refl, sym, ap, subst, inl, inr}
+use Rattle.std.proofs.lemmas.Bool.{and_parts, or_cases}
+use Rattle.std.proofs.Math.Bool.{or-false}
 use Rattle.std.specs.List.{list_all}
 use Rattle.std.specs.Prelude.{option_and_then}
 use Rattle.std.specs.Option.{option_map, option_map_or, is_some}
@@ -11,7 +12,7 @@ use Rattle.craig_script.specs.Reading.{system_named, format_named}
 use Rattle.craig_words.specs.CommandLine.{Piece, are_different, has_name, is_allowed, limit_named, set_by, settings_of, steps_named, value_of, words_read}
 use Rattle.craig_words.specs.ClapCommand.{HasPieces, given, given_settings, is_known}
 use Rattle.craig_words.specs.declared.words.Words.{Words}
-use Rattle.craig_words.proofs.PieceLemmas.{and_true, or_false, same_bytes}
+use Rattle.craig_words.proofs.PieceLemmas.{false_of_not, or_false, same_bytes}
 
 -- a value is read, or there is none
 abbrev is_good : {A : Type 0} → (List ℕ → Option A) → Option (List ℕ) → Bool
@@ -25,22 +26,26 @@ are_good pieces =
 
 -- ---- each piece is allowed where the values of all names are read
 
+-- no value of a name that no piece has
 pub absent : (name : List ℕ) (pieces : List Piece) → has_name name pieces ≡ false → value_of name pieces ≡ None
 absent name [] e = refl
 absent name (piece ∷ pieces) e =
     let parts = or_false (bytes_eq piece.name name) (has_name name pieces) e in
     rw parts.0 (absent name pieces parts.1)
 
+-- one more test, among four: in the first place
 first : (a f l g : Bool) → (a && (true && f && l && g)) ≡ (a && f && l && g)
 first true f l g = refl
 first false f l g = refl
 
+-- in the second place
 second : (a s l g : Bool) → (a && (s && true && l && g)) ≡ (s && a && l && g)
 second true true l g = refl
 second true false l g = refl
 second false true l g = refl
 second false false l g = refl
 
+-- in the third place
 third : (a s f g : Bool) → (a && (s && f && true && g)) ≡ (s && f && a && g)
 third true true true g = refl
 third true true false g = refl
@@ -49,6 +54,7 @@ third false true true g = refl
 third false true false g = refl
 third false false f g = refl
 
+-- in the fourth place
 fourth : (a s f l : Bool) → (a && (s && f && l && true)) ≡ (s && f && l && a)
 fourth true true true true = refl
 fourth true true true false = refl
@@ -63,34 +69,35 @@ fourth false false f l = refl
 abbrev Goes : Piece → List Piece → Type 0
 Goes piece pieces = has_name piece.name pieces ≡ false → list_all is_allowed pieces ≡ are_good pieces → list_all is_allowed (piece ∷ pieces) ≡ are_good (piece ∷ pieces)
 
+-- of a system
 system_goes : (value : List ℕ) (pieces : List Piece) → Goes (record { name = codes "system"; value = value }) pieces
 system_goes value pieces new rest =
     ap (λ b. is_some (system_named value) && b) (rest ∙ ap (λ o. is_good system_named o && is_good format_named (value_of (codes "format") pieces)
     && is_good limit_named (value_of (codes "limit") pieces) && is_good steps_named (value_of (codes "gen") pieces)) (absent (codes "system") pieces new))
     ∙ first (is_some (system_named value)) (is_good format_named (value_of (codes "format") pieces)) (is_good limit_named (value_of (codes "limit") pieces)) (is_good steps_named (value_of (codes "gen") pieces))
 
+-- of a format
 format_goes : (value : List ℕ) (pieces : List Piece) → Goes (record { name = codes "format"; value = value }) pieces
 format_goes value pieces new rest =
     ap (λ b. is_some (format_named value) && b) (rest ∙ ap (λ o. is_good system_named (value_of (codes "system") pieces) && is_good format_named o
     && is_good limit_named (value_of (codes "limit") pieces) && is_good steps_named (value_of (codes "gen") pieces)) (absent (codes "format") pieces new))
     ∙ second (is_some (format_named value)) (is_good system_named (value_of (codes "system") pieces)) (is_good limit_named (value_of (codes "limit") pieces)) (is_good steps_named (value_of (codes "gen") pieces))
 
+-- of a limit
 limit_goes : (value : List ℕ) (pieces : List Piece) → Goes (record { name = codes "limit"; value = value }) pieces
 limit_goes value pieces new rest =
     ap (λ b. is_some (limit_named value) && b) (rest ∙ ap (λ o. is_good system_named (value_of (codes "system") pieces) && is_good format_named (value_of (codes "format") pieces)
     && is_good limit_named o && is_good steps_named (value_of (codes "gen") pieces)) (absent (codes "limit") pieces new))
     ∙ third (is_some (limit_named value)) (is_good system_named (value_of (codes "system") pieces)) (is_good format_named (value_of (codes "format") pieces)) (is_good steps_named (value_of (codes "gen") pieces))
 
+-- of a number of steps
 steps_goes : (value : List ℕ) (pieces : List Piece) → Goes (record { name = codes "gen"; value = value }) pieces
 steps_goes value pieces new rest =
     ap (λ b. is_some (steps_named value) && b) (rest ∙ ap (λ o. is_good system_named (value_of (codes "system") pieces) && is_good format_named (value_of (codes "format") pieces)
     && is_good limit_named (value_of (codes "limit") pieces) && is_good steps_named o) (absent (codes "gen") pieces new))
     ∙ fourth (is_some (steps_named value)) (is_good system_named (value_of (codes "system") pieces)) (is_good format_named (value_of (codes "format") pieces)) (is_good limit_named (value_of (codes "limit") pieces))
 
-none_left : (b : Bool) → (b || false) ≡ true → b ≡ true
-none_left true e = refl
-none_left false e = e
-
+-- of any name that is known
 known_goes : (name value : List ℕ) (pieces : List Piece) → is_known name ≡ true → Goes (record { name = name; value = value }) pieces
 known_goes name value pieces known =
     let P : List ℕ → Type 0 = λ n. Goes (record { name = n; value = value }) pieces in
@@ -100,24 +107,22 @@ known_goes name value pieces known =
         | inl is ↦ subst P (same_bytes (codes "format") name is) (format_goes value pieces)
         | inr one ↦ elim (or_cases (bytes_eq (codes "limit") name) _ one) [
           | inl is ↦ subst P (same_bytes (codes "limit") name is) (limit_goes value pieces)
-          | inr last ↦ subst P (same_bytes (codes "gen") name (none_left (bytes_eq (codes "gen") name) last)) (steps_goes value pieces)
+          | inr last ↦ subst P (same_bytes (codes "gen") name (sym (or-false (bytes_eq (codes "gen") name)) ∙ last)) (steps_goes value pieces)
         ]
       ]
     ]
 
-not_false : (b : Bool) → not b ≡ true → b ≡ false
-not_false true e = absurd (true≢false (sym e))
-not_false false e = refl
-
+-- each piece is allowed where the values of all names are read
 all_allowed : (pieces : List Piece) → are_different pieces ≡ true → list_all (λ piece. is_known piece.name) pieces ≡ true → list_all is_allowed pieces ≡ are_good pieces
 all_allowed [] d k = refl
 all_allowed (piece ∷ pieces) d k =
-    let different = and_true (not (has_name piece.name pieces)) (are_different pieces) d in
-    let known = and_true (is_known piece.name) (list_all (λ p. is_known p.name) pieces) k in
-    known_goes piece.name piece.value pieces known.0 (not_false (has_name piece.name pieces) different.0) (all_allowed pieces different.1 known.1)
+    let different = and_parts (not (has_name piece.name pieces)) (are_different pieces) d in
+    let known = and_parts (is_known piece.name) (list_all (λ p. is_known p.name) pieces) k in
+    known_goes piece.name piece.value pieces known.0 (false_of_not (has_name piece.name pieces) different.0) (all_allowed pieces different.1 known.1)
 
 -- ---- the values as settings
 
+-- a value is given where it is read, or there is none
 given_is : {A : Type 0} (read : List ℕ → Option A) (value : Option (List ℕ)) → given read value ≡ cond (is_good read value) (Some (option_and_then read value)) None
 given_is {A} read None = refl
 given_is {A} read (Some text) = go (read text)
@@ -136,6 +141,7 @@ four_given make x y z w true true false d = refl
 four_given make x y z w true true true false = refl
 four_given make x y z w true true true true = refl
 
+-- all values as they are given are what the pieces set
 settings_given : (pieces : List Piece) → are_different pieces ≡ true → list_all (λ piece. is_known piece.name) pieces ≡ true
     → given_settings (λ name. value_of name pieces) ≡ settings_of pieces
 settings_given pieces d k =

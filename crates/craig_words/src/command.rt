@@ -10,8 +10,8 @@ use clap::error::ErrorKind;
 use clap::{Arg, ArgAction, ArgMatches, Command};
 use std::alloc::{AllocError, Global};
 
-/// What clap matches the words with. It asks for no word but those that `is_readable` lets through: clap takes what
-/// stands behind a word `--` as it stands, and reads a word of one minus sign as a bundle of flags.
+/// What clap matches in the words. No word may be `--`, behind which clap reads no more options, nor begin with one
+/// minus sign alone, which clap reads as flags.
 pub fn matched<'a>(alloc: Global, words: &'a [String]) -> Result<ArgMatches<'a>, WordsFault>
     requires { list_all is_readable (map (λ word. string_bytes word) words.now) ≡ true }
     ensures { IsMatchOf (map (λ word. string_bytes word) words.now) result }

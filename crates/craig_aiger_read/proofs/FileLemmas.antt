@@ -145,7 +145,7 @@ gates-by first order variables (j ∷ js) gates places within =
     let w = within 0 (omega arith) in
     rw (moved_by-is first order variables g.left places w.0, moved_by-is first order variables g.right places w.1, gates-by first order variables js gates places (λ k low. within (suc k) (omega arith))) refl
 
-file-same : (i i2 : List (Option (List ℕ))) (l l2 : List FileLatch) (o o2 b b2 : List FileRoot) (g g2 : List circuit.Gate) → i ≡ i2 → l ≡ l2 → o ≡ o2 → b ≡ b2 → g ≡ g2 →
+pub file-same : (i i2 : List (Option (List ℕ))) (l l2 : List FileLatch) (o o2 b b2 : List FileRoot) (g g2 : List circuit.Gate) → i ≡ i2 → l ≡ l2 → o ≡ o2 → b ≡ b2 → g ≡ g2 →
     ◌≡◌ {A = AigerFile} (record { inputs = i; latches = l; outputs = o; bads = b; gates = g }) (record { inputs = i2; latches = l2; outputs = o2; bads = b2; gates = g2 })
 file-same i i2 l l2 o o2 b b2 g g2 ei el eo eb eg = rw (ei, el, eo, eb, eg) refl
 

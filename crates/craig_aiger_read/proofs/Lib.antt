@@ -15,3 +15,6 @@ mod NamingLemmas
 pub mod AssemblyLemmas
 mod FileLemmas
 mod ReadingLemmas
+mod GroupLemmas
+mod BinaryGateLemmas
+mod BinaryLemmas

@@ -1,8 +1,8 @@
 -- Laws of the lines of a text.
-use Rattle.std.proofs.Common.{◌≡◌, ℕ, ◌+◌, ◌-◌, ◌<◌, false, eqb, Some, None, Option, List, [], ◌∷◌, length, take, refl, ◌∙◌, ap, arith, length-drop, Bor}
+use Rattle.std.proofs.Common.{◌≡◌, ℕ, ◌+◌, ◌-◌, ◌<◌, false, eqb, Some, None, Option, List, [], ◌∷◌, drop, length, take, refl, sym, ◌∙◌, ap, arith, length-drop, Bor}
 use Rattle.std.specs.List.{position_or_len, slice_split, before_first}
 use Rattle.std.specs.Option.{unwrap_or, option_copied}
-use Rattle.std.proofs.lemmas.List.{take_all, length-take-le}
+use Rattle.std.proofs.lemmas.List.{drop_all, take_all, length-take-le}
 use Rattle.craig_spec.specs.AigerReading.{placed, without_empty_end}
 use Rattle.craig_aiger_read.specs.Cuts.{is_byte, behind_first, pieces_behind}
 use Rattle.craig_aiger_read.specs.ReadLines.{IsFirstLine}
@@ -38,6 +38,9 @@ first_line-by (Some behind) bytes e some =
           ∙ ap (placed (end - length bytes)) (without_empty_end-line (take n bytes) behind)
           ∙ ap (λ z. record { offset = end - length bytes; bytes = take n bytes } ∷ placed z (without_empty_end (slice_split (is_byte 10) behind))) place;
       shorter = omega (arith, rest, h.inside);
+      last =
+          let cut : n + 1 ≡ length bytes - length behind = omega (arith, rest, h.inside) in
+          h.is ∙ ap (λ z. drop z bytes) cut;
     }
 first_line-by None bytes e some =
     let n : ℕ = position_or_len (is_byte 10) bytes in
@@ -48,6 +51,7 @@ first_line-by None bytes e some =
           ap (λ z. placed (end - length bytes) (without_empty_end z)) split
           ∙ ap (placed (end - length bytes)) (without_empty_end-last (take n bytes) (omega (arith, some, ap length whole)));
       shorter = some;
+      last = sym (drop_all (length bytes - 0) bytes (omega arith));
     }
 
 -- the first line goes up to the first newline

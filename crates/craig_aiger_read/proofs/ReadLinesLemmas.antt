@@ -1,18 +1,28 @@
 -- Laws of lines that are read one after the other.
-use Rattle.std.proofs.Common.{◌≡◌, ℕ, suc, ◌+◌, ◌-◌, ◌<◌, ◌≤◌, List, [], ◌∷◌, ◌++◌, length, Result, Ok, Err, refl, sym, ◌∙◌, ap, arith}
+use Rattle.std.proofs.Common.{◌≡◌, ℕ, suc, ◌+◌, ◌-◌, ◌<◌, ◌≤◌, List, [], ◌∷◌, ◌++◌, drop, length, Result, Ok, Err, refl, sym, ◌∙◌, ap, arith}
+use Rattle.std.proofs.lemmas.List.{drop-drop}
 use Rattle.craig_spec.specs.AigerFault.{Fault, FaultKind}
 use Rattle.craig_spec.specs.AigerReading.{TextLine, read_lines, fault, ◌>>=◌}
 use Rattle.craig_aiger_read.specs.ReadLines.{lines_at, IsFirstLine}
+
+-- what is behind what is behind something
+pub drop-further : (text rest behind : List ℕ) → length rest ≤ length text → length behind ≤ length rest → rest ≡ drop (length text - length rest) text → behind ≡ drop (length rest - length behind) rest →
+    behind ≡ drop (length text - length behind) text
+drop-further text rest behind short less first second =
+    let whole : length text - length rest + (length rest - length behind) ≡ length text - length behind = omega (arith, short, less) in
+    second ∙ ap (drop (length rest - length behind)) first ∙ drop-drop (length rest - length behind) (length text - length rest) text ∙ ap (λ z. drop z text) whole
 
 -- so many of the lines were read, as these, and what is left is read as the others
 pub record ReadSoFar {A : Type 0} (each : List A → TextLine → Result A Fault) (end count i : ℕ) (before : List A) (text rest : List ℕ) : Type 0 where
   pub reads : read_lines each end (count - i) before (lines_at end rest) ≡ read_lines each end count [] (lines_at end text)
   pub shorter : length rest ≤ length text
+  pub last : rest ≡ drop (length text - length rest) text
 
 pub read-none : {A : Type 0} (each : List A → TextLine → Result A Fault) (end count : ℕ) (text : List ℕ) → ReadSoFar each end count 0 [] text text
 read-none each end count text =
     let whole : count - 0 ≡ count = omega arith in
-    record { reads = ap (λ z. read_lines each end z [] (lines_at end text)) whole; shorter = omega arith }
+    let none : length text - length text ≡ 0 = omega arith in
+    record { reads = ap (λ z. read_lines each end z [] (lines_at end text)) whole; shorter = omega arith; last = sym (ap (λ z. drop z text) none) }
 
 -- the next line, by what it is
 line-next : {A : Type 0} (each : List A → TextLine → Result A Fault) (end n : ℕ) (before : List A) (line : TextLine) (lines : List TextLine) (found : Result A Fault) → each before line ≡ found →
@@ -37,6 +47,7 @@ pub read-more : {A : Type 0} (each : List A → TextLine → Result A Fault) (en
 read-more each end count i before text rest line behind a h inside within first e = record {
   reads = read-next each end count i before text rest line behind (Ok a) h inside within first e;
   shorter = omega (arith, h.shorter, first.shorter);
+  last = drop-further text rest behind h.shorter (omega (arith, first.shorter)) h.last first.last;
 }
 
 -- a line with a fault

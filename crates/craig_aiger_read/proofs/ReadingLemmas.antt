@@ -1,8 +1,9 @@
 -- Laws of the reading of a whole text.
-use Rattle.std.proofs.Common.{◌≡◌, ℕ, ◌-◌, List, [], ◌∷◌, length, Result, Ok, Err, refl, ◌∙◌, ap, arith}
+use Rattle.std.proofs.Common.{◌≡◌, ℕ, ◌-◌, true, false, List, [], ◌∷◌, length, Result, Ok, Err, refl, ◌∙◌, ap, arith}
 use Rattle.std.specs.Prelude.{IfErr, IfOk}
 use Rattle.std.specs.List.{slice_split}
 use Rattle.craig_spec.specs.AigerFault.{Fault, FaultKind}
+use Rattle.craig_spec.specs.AigerBinary.{aig_reading, aiger_reading, begins_binary}
 use Rattle.craig_spec.specs.AigerReading.{AigerFile, Counts, IsDefinedFile, Written, fault, file_written, header_in, lines_of, placed, read_from, aag_reading, without_empty_end, written_in}
 use Rattle.craig_aiger_read.specs.declared.aiger_error.AigerError.{AigerError}
 use Rattle.craig_aiger_read.specs.declared.circuit.Circuit.{Circuit}
@@ -11,7 +12,7 @@ use Rattle.craig_aiger_read.specs.ReadFaults.{IsFaultOf, IsReadAs}
 use Rattle.craig_aiger_read.specs.ReadFiles.{as_file}
 use Rattle.craig_aiger_read.specs.ReadLines.{lines_at, IsFirstLine}
 
-whole-lines : (bytes : List ℕ) → lines_of bytes ≡ lines_at (length bytes) bytes
+pub whole-lines : (bytes : List ℕ) → lines_of bytes ≡ lines_at (length bytes) bytes
 whole-lines bytes = let none : 0 ≡ length bytes - length bytes = omega arith in ap (λ z. placed z (without_empty_end (slice_split (is_byte 10) bytes))) none
 
 -- a text without a byte
@@ -44,7 +45,16 @@ pub reading-given : (K : Written → Type 0) (w : Written) (result : Result Circ
 reading-given K w (Ok circuit) read k same ok err = same ∙ ok w k
 reading-given K w (Err e) read k same ok err = rw same (err w k)
 
+-- bytes are read as their first word says
+pub reading-binary : (bytes : List ℕ) → begins_binary bytes ≡ true → aig_reading bytes ≡ aiger_reading bytes
+unfolding aiger_reading
+reading-binary bytes e = rw e refl
+
+pub reading-ascii : (bytes : List ℕ) → begins_binary bytes ≡ false → aag_reading bytes ≡ aiger_reading bytes
+unfolding aiger_reading
+reading-ascii bytes e = rw e refl
+
 -- what is read is a file in which whatever is used is there
-pub defined-read : (bytes : List ℕ) (result : Result Circuit AigerError) → ((b : List ℕ) (f : AigerFile) → aag_reading b ≡ Ok f → IsDefinedFile f) → IsReadAs as_file result (aag_reading bytes) → IfOk result (λ c. IsDefinedFile (as_file c))
+pub defined-read : (bytes : List ℕ) (result : Result Circuit AigerError) → ((b : List ℕ) (f : AigerFile) → aiger_reading b ≡ Ok f → IsDefinedFile f) → IsReadAs as_file result (aiger_reading bytes) → IfOk result (λ c. IsDefinedFile (as_file c))
 defined-read bytes (Ok c) law is = law bytes (as_file c) is
 defined-read bytes (Err e) law is = tt

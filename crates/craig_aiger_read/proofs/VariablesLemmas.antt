@@ -1,7 +1,8 @@
 -- Laws of the list of the variables, which begins with the constant's.
-use Rattle.std.proofs.Common.{◌≡◌, ℕ, false, cond, eqb, List, [], ◌∷◌, ◌++◌, drop, map, refl, sym, ◌∙◌, ap}
+use Rattle.std.proofs.Common.{◌≡◌, ℕ, ◌+◌, false, cond, eqb, List, [], ◌∷◌, ◌++◌, drop, length, map, refl, sym, ◌∙◌, ap}
 use Rattle.std.proofs.lemmas.List.{append_assoc, map_push}
 use Rattle.std.specs.List.{list_any}
+use Rattle.craig_spec.specs.AigerBinary.{binary_latch_in, binary_latch_of}
 use Rattle.craig_spec.specs.AigerReading.{Counts, GateLine, LatchLine, RootLine, gate_in, gate_of, input_in, input_of, latch_in, latch_of, numbers_in, root_in, root_of}
 
 -- a new variable goes last
@@ -40,3 +41,9 @@ gate_in-variables c known variables bytes before offset e = ap (λ z. gate_of c 
 pub root_in-is : (c : Counts) (before : List RootLine) (bytes : List ℕ) (offset : ℕ) → root_in c before (record { offset = offset; bytes = bytes }) ≡ root_of c offset (numbers_in bytes)
 unfolding root_in
 root_in-is c before bytes offset = refl
+
+-- the latch that a line of a binary text is
+pub binary_latch_in-variable : (c : Counts) (before : List LatchLine) (offset variable : ℕ) (bytes : List ℕ) → variable ≡ 1 + c.inputs + length before →
+    binary_latch_in c before (record { offset = offset; bytes = bytes }) ≡ binary_latch_of c variable offset (numbers_in bytes)
+unfolding binary_latch_in
+binary_latch_in-variable c before offset variable bytes is = ap (λ z. binary_latch_of c z offset (numbers_in bytes)) (sym is)

@@ -10,3 +10,5 @@ pub mod ReadOrder
 pub mod Ranks
 pub mod ReadFiles
 pub mod Assembled
+pub mod ReadGroups
+pub mod ReadBinary

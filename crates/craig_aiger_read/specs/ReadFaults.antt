@@ -2,7 +2,7 @@
 use Rattle.std.specs.Prelude.{◌≡◌, Option, Some, None, Result, Ok, Err}
 use Rattle.craig_spec.specs.AigerFault.{Fault, FaultKind}
 use Rattle.craig_aiger_read.specs.declared.aiger_error.AigerError.{AigerError}
-use Rattle.craig_aiger_read.specs.declared.aiger_error.AigerError.TheVariants.{Header, Count, Unsupported, Truncated, Line, Literal, Twice, Reset, Symbol, Undefined, Cycle, NoMemory}
+use Rattle.craig_aiger_read.specs.declared.aiger_error.AigerError.TheVariants.{Header, Count, Unsupported, Truncated, Line, Literal, Twice, Reset, Delta, Symbol, Undefined, Cycle, NoMemory}
 
 -- the fault that an error stands for, where it isn't want of memory
 abbrev pub fault_of : AigerError → Option Fault
@@ -14,6 +14,7 @@ fault_of (Line offset) = Some (record { kind = FaultKind.Line; offset = offset }
 fault_of (Literal offset) = Some (record { kind = FaultKind.Literal; offset = offset })
 fault_of (Twice offset) = Some (record { kind = FaultKind.Twice; offset = offset })
 fault_of (Reset offset) = Some (record { kind = FaultKind.Reset; offset = offset })
+fault_of (Delta offset) = Some (record { kind = FaultKind.Delta; offset = offset })
 fault_of (Symbol offset) = Some (record { kind = FaultKind.Symbol; offset = offset })
 fault_of (Undefined offset) = Some (record { kind = FaultKind.Undefined; offset = offset })
 fault_of (Cycle offset) = Some (record { kind = FaultKind.Cycle; offset = offset })

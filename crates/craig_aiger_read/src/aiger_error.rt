@@ -16,14 +16,15 @@ pub enum AigerError {
     /// The first line is not a header, or there is no byte.
     #[error("byte {place}: no header")]
     Header { place: u64 },
-    /// The greatest variable is less than the number of inputs, latches and gates.
-    #[error("byte {place}: the greatest variable is less than the number of definitions")]
+    /// The greatest variable is less than the number of inputs, latches and gates, or in a binary text more.
+    #[error("byte {place}: the greatest variable is not that of the definitions")]
     Count { place: u64 },
     /// The header counts constraints, or justice or fairness properties.
     #[error("byte {place}: constraints and justice and fairness properties are not supported")]
     Unsupported { place: u64 },
-    /// The bytes end before the lines that the header counts. The place is the number of bytes.
-    #[error("byte {place}: the text ends before the lines that its header counts")]
+    /// The bytes end before the lines or the binary numbers that the header counts. The place is the number of
+    /// bytes.
+    #[error("byte {place}: the text ends before what its header counts")]
     Truncated { place: u64 },
     /// The line of an input, a latch, an output, a bad literal or a gate is not in its form.
     #[error("byte {place}: the line is not in its form")]
@@ -37,6 +38,10 @@ pub enum AigerError {
     /// The reset of a latch is not 0, 1 or the latch's own literal.
     #[error("byte {place}: the reset is not 0, 1 or the latch's own literal")]
     Reset { place: u64 },
+    /// A binary number has more than nine groups, or the first of a gate is 0 or above the gate's literal, or the
+    /// second is above the first operand. The place is the number's first byte.
+    #[error("byte {place}: the difference is out of range")]
+    Delta { place: u64 },
     /// A line after the gates is neither a symbol nor the first of the comments, there is nothing at its
     /// position, or what is there has a name already.
     #[error("byte {place}: the line is no symbol of something without a name")]

@@ -101,7 +101,7 @@ fn latch_with(
 }
 
 /// How the latch of a literal starts, by the last number of its line.
-fn reset_of(offset: u64, own: u64, number: u64) -> Result<Reset, AigerError>
+pub(crate) fn reset_of(offset: u64, own: u64, number: u64) -> Result<Reset, AigerError>
     ensures { IsReadAs as_reset result (reset_of offset own number) }
 {
     if number == 0 {

@@ -6,6 +6,9 @@
 
 mod aiger_error;
 mod assembly;
+mod binary_gates;
+mod binary_latch;
+mod binary_reading;
 mod circuit;
 mod counts;
 mod cut;
@@ -31,6 +34,7 @@ mod reset;
 mod root;
 mod root_line;
 mod root_list;
+mod seven_bits;
 mod symbols;
 mod text_line;
 mod variables;

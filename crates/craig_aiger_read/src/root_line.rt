@@ -1,5 +1,5 @@
 //! The lines of the outputs, and those of the bad literals.
-ghost use Rattle.std.specs.Prelude.{◌≡◌, ◌≤◌, [], map, length, IfOk};
+ghost use Rattle.std.specs.Prelude.{◌≡◌, ◌-◌, ◌≤◌, [], drop, map, length, IfOk};
 ghost use Rattle.craig_spec.specs.AigerReading.{root_of, numbers_in};
 ghost use Rattle.craig_aiger_read.specs.ReadFaults.{IsReadAs};
 ghost use Rattle.craig_aiger_read.specs.ReadLines.{lines_at, roots_at};
@@ -32,6 +32,7 @@ pub(crate) fn read_roots<'a>(
     requires { length text.now ≤ end }
     ensures read { IsReadAs (λ x. (map as_root x.0.items, lines_at end x.1.now)) result (roots_at counts.now count end text.now) }
     ensures shorter { IfOk result (λ x. length x.1.now ≤ length text.now) }
+    ensures last { IfOk result (λ x. x.1.now ≡ drop (length text.now - length x.1.now) text.now) }
 {
     let mut roots = Vec::new(alloc);
     let mut rest = text;

@@ -86,11 +86,11 @@ fn no_names(alloc: Global, counts: &Counts) -> Result<NameTable, AllocError>
     })
 }
 
-/// So many things without names.
+/// So many things without names. Room for all is asked for first, since no line need stand for an input.
 fn unnamed(alloc: Global, count: u64) -> Result<Vec<Option<Name>>, AllocError>
     ensures { IfOk result (λ names. names.items ≡ replicate count None) }
 {
-    let mut names = Vec::new(alloc);
+    let mut names = Vec::with_capacity(alloc, count as usize)?;
     for _ in 0..count {
         names.push(None)?;
     }

@@ -10,12 +10,12 @@ const HALF_ADDER: &[u8] =
 /// Texts, and what is printed of their first faults.
 const FAULTS: [(&[u8], &str); 16] = [
     (b"", "byte 0: no header"),
-    (b"aig 0 0 0 0 0\n", "byte 0: no header"),
+    (b"aig 0 0 0 0\n", "byte 0: no header"),
     (b"aag 1 1 0 0\n", "byte 0: no header"),
     (b"aag  1 1 0 0 0\n", "byte 0: no header"),
     (
         b"aag 1 1 0 0 1\n",
-        "byte 0: the greatest variable is less than the number of definitions",
+        "byte 0: the greatest variable is not that of the definitions",
     ),
     (
         b"aag 0 0 0 0 0 0 1\n",
@@ -23,7 +23,7 @@ const FAULTS: [(&[u8], &str); 16] = [
     ),
     (
         b"aag 0 0 0 1 0\n",
-        "byte 14: the text ends before the lines that its header counts",
+        "byte 14: the text ends before what its header counts",
     ),
     (
         b"aag 1 1 0 0 0\n2 2\n",
@@ -55,7 +55,7 @@ const FAULTS: [(&[u8], &str); 16] = [
     ),
     (
         b"aag 999999999999999999 0 0 999999999999999999 0\n2\n",
-        "byte 50: the text ends before the lines that its header counts",
+        "byte 50: the text ends before what its header counts",
     ),
     (
         b"aag 3 1 0 1 1\n2\n4\n6 6 2\no0 a\no0 b\n",
@@ -64,7 +64,7 @@ const FAULTS: [(&[u8], &str); 16] = [
 ];
 
 /// Whether the text has a fault, and it prints so.
-fn prints_as(alloc: Global, text: &[u8], message: &str) -> Result<bool, AllocError> {
+pub(crate) fn prints_as(alloc: Global, text: &[u8], message: &str) -> Result<bool, AllocError> {
     match read(alloc, text) {
         Ok(_) => Ok(false),
         Err(error) => Ok(format!(in alloc; "{error}")?.as_str() == message),
@@ -72,7 +72,7 @@ fn prints_as(alloc: Global, text: &[u8], message: &str) -> Result<bool, AllocErr
 }
 
 /// Whether the name is there and has these bytes.
-fn is_named(name: &Option<Name>, bytes: &[u8]) -> bool {
+pub(crate) fn is_named(name: &Option<Name>, bytes: &[u8]) -> bool {
     match name {
         Some(name) => name.as_slice() == bytes,
         None => false,
@@ -80,7 +80,7 @@ fn is_named(name: &Option<Name>, bytes: &[u8]) -> bool {
 }
 
 /// Whether the input at the place has the name.
-fn has_input(circuit: &Circuit, place: usize, name: &[u8]) -> bool {
+pub(crate) fn has_input(circuit: &Circuit, place: usize, name: &[u8]) -> bool {
     match circuit.inputs.as_slice().get(place) {
         Some(input) => is_named(input, name),
         None => false,
@@ -88,7 +88,7 @@ fn has_input(circuit: &Circuit, place: usize, name: &[u8]) -> bool {
 }
 
 /// Whether the root at the place has the literal and the name.
-fn has_root(roots: &Roots, place: usize, literal: u64, name: &[u8]) -> bool {
+pub(crate) fn has_root(roots: &Roots, place: usize, literal: u64, name: &[u8]) -> bool {
     match roots.as_slice().get(place) {
         Some(root) => root.literal == literal && is_named(&root.name, name),
         None => false,
@@ -96,7 +96,7 @@ fn has_root(roots: &Roots, place: usize, literal: u64, name: &[u8]) -> bool {
 }
 
 /// Whether the gate at the place has the operands.
-fn has_gate(circuit: &Circuit, place: usize, left: u64, right: u64) -> bool {
+pub(crate) fn has_gate(circuit: &Circuit, place: usize, left: u64, right: u64) -> bool {
     circuit.gates.as_slice().get(place) == Some(&Gate { left, right })
 }
 

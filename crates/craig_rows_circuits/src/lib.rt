@@ -10,6 +10,8 @@ mod aiger;
 #[cfg(test)]
 mod aiger_read;
 #[cfg(test)]
+mod binary;
+#[cfg(test)]
 mod binary_writing;
 #[cfg(test)]
 mod cnf;

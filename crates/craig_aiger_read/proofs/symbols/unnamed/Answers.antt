@@ -2,4 +2,4 @@ use Rattle.std.proofs.lemmas.Result.{IfOk-from_err}
 use Rattle.craig_aiger_read.proofs.symbols.unnamed.Goals as goal
 
 pub returns-in_err-push : goal.returns-in_err-push
-returns-in_err-push c = IfOk-from_err _ _ c.from_residual.ensures.0
+returns-in_err-push c = IfOk-from_err _ _ c.from_residual-in_err-push.ensures.0

@@ -24,6 +24,8 @@ pub mod TranscriptLemmas
 pub mod FaultsLemmas
 pub mod PutsLemmas
 pub mod RunLemmas
+pub mod GeneratedRunLemmas
+pub mod GeneratedStateLemmas
 pub mod NamedChainLemmas
 pub mod NamedRefutationLemmas
 pub mod NamedSidesLemmas

@@ -11,6 +11,7 @@
 mod assumptions;
 mod choices;
 mod clause;
+mod generated;
 mod greatest;
 pub mod laws;
 mod lemmas;
@@ -27,6 +28,7 @@ mod stored;
 mod top_call;
 mod verdict;
 
+pub use generated::run_generated;
 pub use run::run_script;
 pub use session::Session;
 pub use settings::Settings;

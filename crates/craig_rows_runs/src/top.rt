@@ -445,16 +445,66 @@ fn words_are_refused(rt: HostRuntime) -> Result<(), Fail> {
         &["--"],
     ];
     for row in &rows {
-        let mut words = Vec::new(alloc);
-        for word in *row {
-            words.push(String::from_str(alloc, word)?)?;
-        }
-        let bytes = Vec::from_slice(alloc, UNSATISFIABLE.script)?;
-        let mut source = MemSource::new(bytes, 3, Vec::new(alloc));
-        let mut sink = MemSink::new(alloc, 65536, 65536, Vec::new(alloc))?;
-        let status = craig_top(alloc, &words, &mut source, &mut sink);
-        let refused = status.number() == 1 && sink.bytes().is_empty();
+        let ending = end_with(alloc, row, UNSATISFIABLE.script)?;
+        let refused = ending.0 == 1 && ending.1.is_empty();
         assert!(rt; refused);
+    }
+    Ok(())
+}
+
+/// The number of the status and the bytes put by a run with the words.
+fn end_with(alloc: Global, row: &[&str], script: &[u8]) -> Result<(u8, Vec<u8>), AllocError> {
+    let mut words = Vec::new(alloc);
+    for word in row {
+        words.push(String::from_str(alloc, word)?)?;
+    }
+    let bytes = Vec::from_slice(alloc, script)?;
+    let mut source = MemSource::new(bytes, 3, Vec::new(alloc));
+    let mut sink = MemSink::new(alloc, 65536, 65536, Vec::new(alloc))?;
+    let status = craig_top(alloc, &words, &mut source, &mut sink);
+    Ok((status.number(), Vec::from_slice(alloc, sink.bytes())?))
+}
+
+#[test]
+fn words_set_how_a_script_begins(rt: HostRuntime) -> Result<(), Fail> {
+    let rows: [(&[&str], &[u8]); 2] = [
+        (
+            &["--format", "cnf"],
+            b"ok\nok\ns UNSATISFIABLE\nf 0\na 34\nc o 0 T\nc o 1 1\nc o 2 F\np cnf 1 0\n",
+        ),
+        (
+            &["--limit=none", "--system", "mcmillan"],
+            UNSATISFIABLE.replies,
+        ),
+    ];
+    for (words, replies) in &rows {
+        let ending = end_with(rt.alloc(), words, UNSATISFIABLE.script)?;
+        let answered = ending.0 == 0 && ending.1.as_slice() == *replies;
+        assert!(rt; answered);
+    }
+    Ok(())
+}
+
+#[test]
+fn a_generated_script_has_a_summary_and_a_reply(rt: HostRuntime) -> Result<(), Fail> {
+    let rows: [(&[&str], &[u8]); 3] = [
+        (
+            &["--gen", "1"],
+            b"gen 1\nparts 2\nclauses 55\nvariables 21\ncuts 3\ns UNSATISFIABLE\nf 0\na ",
+        ),
+        (
+            &["--gen=1"],
+            b"gen 1\nparts 2\nclauses 55\nvariables 21\ncuts 3\ns UNSATISFIABLE\nf 0\na ",
+        ),
+        (
+            &["--gen", "3"],
+            b"gen 3\nparts 4\nclauses 148\nvariables 49\ncuts 5\ns UNSATISFIABLE\nf 0\na ",
+        ),
+    ];
+    for (words, begin) in &rows {
+        let ending = end_with(rt.alloc(), words, b"")?;
+        let answered = ending.0 == 0 && ending.1.starts_with(begin);
+        assert!(rt; answered);
     }
     Ok(())
 }

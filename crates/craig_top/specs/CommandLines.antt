@@ -1,17 +1,12 @@
 -- Which words a line of a script has that is a command.
-use Rattle.std.specs.Prelude.{ℕ, ◌≤◌, List, [], ◌∷◌, ◌++◌, Contains, codes, map, ℤ, pos, Option, Some, None, ◌≡◌, ◌≢◌, Ok}
-use Rattle.std.specs.List.{flat_map}
+use Rattle.std.specs.Prelude.{ℕ, ◌≤◌, List, [], Contains, map, ℤ, pos, Option, Some, ◌≡◌, ◌≢◌, Ok}
 use Rattle.std.specs.List.Sorted.{IsStrictlyIncreasing}
-use Rattle.std.specs.Fmt.{decimal, signed_decimal}
 use Rattle.std.specs.Int.RustNames.{unsigned_abs}
 use Rattle.craig_script.specs.declared.line.Line.TheVariants.{Text}
 use Rattle.craig_script.specs.declared.cut_word.CutWord.TheVariants as cut
 use Rattle.craig_script.specs.declared.setting_words.FormatWord.{FormatWord}
-use Rattle.craig_script.specs.declared.setting_words.FormatWord.TheVariants as format
 use Rattle.craig_script.specs.declared.setting_words.MarkWord.{MarkWord}
-use Rattle.craig_script.specs.declared.setting_words.MarkWord.TheVariants as mark
 use Rattle.craig_script.specs.declared.setting_words.SystemWord.{SystemWord}
-use Rattle.craig_script.specs.declared.setting_words.SystemWord.TheVariants as system
 use Rattle.craig_script.specs.declared.command.Command.TheVariants.{Parts, Add, System, Mark, Cuts, Limit, Format, Solve}
 use Rattle.craig_top.specs.GivenState.{State, reading}
 

@@ -35,6 +35,7 @@ pub mod StoredReplies
 pub mod Transcript
 pub mod TrueParts
 pub mod Values
+pub mod WordsRun
 pub mod WrittenOutputs
 pub mod WrittenSystems
 pub mod LemmaReply

@@ -2,8 +2,10 @@
 
 ghost use Rattle.std.specs.Prelude.{◌≡◌};
 ghost use Rattle.craig_top.specs.StartingSettings.{starting_settings};
+ghost use Rattle.craig_top.specs.WordsRun.{settings_with};
 
 use craig_script::{FormatWord, SystemWord};
+use craig_words::Words;
 
 /// What holds before the first line of a script.
 #[derive(Clone, Copy, Debug, PartialEq, Eq)]
@@ -25,6 +27,18 @@ impl Settings {
             system: SystemWord::Pudlak,
             format: FormatWord::Aag,
             limit: None,
+        }
+    }
+
+    /// The settings that the words set, and those of the start where they set none.
+    pub fn with(words: &Words) -> Settings
+        ensures { result ≡ settings_with words.now }
+    {
+        let start = Settings::start();
+        Settings {
+            system: words.system.unwrap_or(start.system),
+            format: words.format.unwrap_or(start.format),
+            limit: words.limit.unwrap_or(start.limit),
         }
     }
 }

@@ -4,13 +4,13 @@
     bench/circuits.py [GATES ..]
 
 Chains of so many gates over 1000 inputs, 10000, 100000 and 1000000 if none is named, are built in an arena, laid out,
-written in the ASCII form and read back. The program that does it is written into a copy of the crates, proved and run
-by `rt run`, which takes some minutes where nothing is kept. Nothing here is a test: it prints figures to compare in
-one run.
+written in the ASCII and in the binary form, and read back from each. The program that does it is written into a copy of
+the crates, proved and run by `rt run`, which takes some minutes where nothing is kept. Nothing here is a test: it prints
+figures to compare in one run.
 
-Where berkeley-abc is installed, it reads the same circuit in the binary form, which is the one that it takes, and the
-last column is the time of `read` as a ratio to its time. Its reading builds a hashed network, and `read` a list of
-gates by depth. It goes down a deep chain by recursion, so it is given all the stack that there is.
+Where berkeley-abc is installed, it reads the very file of the binary form, and the last column is the time of `read` as
+a ratio to its time. Its reading builds a hashed network, and `read` a list of gates; in the ASCII form `read` also sorts
+them by depth. It goes down a deep chain by recursion, so it is given all the stack that there is.
 """
 
 import os
@@ -21,9 +21,7 @@ import sys
 import tempfile
 import time
 
-from other_readers import binary_form
-
-ROOT = os.path.dirname(os.path.dirname(os.path.abspath(__file__)))
+from random_circuits import copy_of_crates
 
 PROGRAM = r"""//! Builds, lays out and writes circuits of several sizes, and prints how long each step takes.
 #![tactic(auto)]
@@ -36,6 +34,7 @@ use craig_aig::{Aig, Edge};
 use craig_aiger::{Form, Layout, OutName};
 use craig_base::{Names, Var};
 use std::alloc::{AllocError, Global};
+use std::fs;
 use std::time::Instant;
 
 const INPUTS: u32 = 1000;
@@ -100,15 +99,23 @@ fn is_read(alloc: Global, text: &[u8]) -> bool {
     craig_aiger_read::read(alloc, text).is_ok()
 }
 
-// Prints the number of gates, the bytes, and the nanoseconds of building, layout, size, writing and reading.
-fn measure_text(rt: &HostRuntime, layout: &Layout, gates: u32, built: u128, laid_out: u128) -> Result<()> {
+// Appends the text of the form.
+fn write_form(layout: &Layout, form: Form, out: &mut Vec<u8>) -> Result<(), AllocError> {
+    match form {
+        Form::Aag => layout.write_aag(out),
+        Form::Aig => layout.write_aig(out),
+    }
+}
+
+// Prints the bytes of the form, and the nanoseconds of its size, writing and reading. The text is given back.
+fn measure_form(rt: &HostRuntime, layout: &Layout, form: Form) -> Result<Vec<u8>> {
     let alloc = rt.alloc();
     let start = Instant::now(rt)?;
-    let size = layout.size_of(Form::Aag);
+    let size = layout.size_of(form);
     let counted = since(rt, &start);
     let mut text = Vec::new(alloc);
     let start = Instant::now(rt)?;
-    layout.write_aag(&mut text)?;
+    write_form(layout, form, &mut text)?;
     let written = since(rt, &start);
     let start = Instant::now(rt)?;
     let back = is_read(alloc, text.as_slice());
@@ -116,7 +123,18 @@ fn measure_text(rt: &HostRuntime, layout: &Layout, gates: u32, built: u128, laid
     if !back {
         println!(rt; "not read")?;
     }
-    println!(rt; "{gates} {size} {built} {laid_out} {counted} {written} {read}")?;
+    print!(rt; " {size} {counted} {written} {read}")?;
+    Ok(text)
+}
+
+// Prints the figures of both forms, and leaves the binary text in a file.
+fn measure_text(rt: &HostRuntime, layout: &Layout, gates: u32, built: u128, laid_out: u128) -> Result<()> {
+    print!(rt; "{gates} {built} {laid_out}")?;
+    let _ = measure_form(rt, layout, Form::Aag)?;
+    let text = measure_form(rt, layout, Form::Aig)?;
+    println!(rt; "")?;
+    let path = format!(in rt.alloc(); "[FOLDER]/{gates}.aig")?;
+    fs::write(rt, path.as_str(), text.as_slice())?;
     Ok(())
 }
 
@@ -222,34 +240,13 @@ FILES = {
 
 def write_crate(folder, sizes):
     """A copy of the crates with the program beside them; the folder of the program is given back."""
-    shutil.copytree(os.path.join(ROOT, "crates"), os.path.join(folder, "crates"), ignore=shutil.ignore_patterns("out"))
-    with open(os.path.join(ROOT, "crates.txt")) as old, open(os.path.join(folder, "crates.txt"), "w") as new:
-        new.write(old.read() + "circuit_times: anyhow craig_base craig_aig craig_aiger craig_aiger_read\n")
-    shutil.copy(os.path.join(ROOT, "HANDLES"), folder)
-    crate = os.path.join(folder, "crates", "circuit_times")
+    crate = copy_of_crates(folder, "circuit_times", ["anyhow", "craig_base", "craig_aig", "craig_aiger", "craig_aiger_read"])
     for name, text in FILES.items():
         path = os.path.join(crate, name)
         os.makedirs(os.path.dirname(path), exist_ok=True)
         with open(path, "w") as out:
-            out.write(text.replace("[GATES]", "[%s]" % ", ".join(map(str, sizes))))
+            out.write(text.replace("[GATES]", "[%s]" % ", ".join(map(str, sizes))).replace("[FOLDER]", folder))
     return crate
-
-
-def chain_text(gates):
-    """The text of the chain that the program builds: its first two conjunctions are folded."""
-    used = min(gates, 1000)
-    first = 0 if gates > 1000 else 1
-    literal = {variable: 2 * (variable - first + 1) for variable in range(first, used)}
-    lines = []
-    last = literal[1]
-    for place in range(2, gates):
-        own = 2 * (len(literal) + len(lines) + 1)
-        left, right = sorted((literal[place % 1000], last ^ 1), reverse=True)
-        lines.append("%d %d %d" % (own, left, right))
-        last = own
-    header = "aag %d %d 0 1 %d" % (len(literal) + len(lines), len(literal), len(lines))
-    symbols = ["i%d %d" % (place, 1 + 7 * variable) for place, variable in enumerate(literal)] + ["o0 0"]
-    return "".join(line + "\n" for line in [header, *map(str, literal.values()), str(last), *lines, *symbols]).encode()
 
 
 def with_all_stack():
@@ -262,35 +259,36 @@ def seconds_of_abc(commands):
     return time.perf_counter() - start
 
 
-def reading_by_abc(text, gates):
-    """The nanoseconds in which berkeley-abc reads the circuit of the text."""
-    with tempfile.NamedTemporaryFile(suffix=".aig") as file:
-        file.write(binary_form(text))
-        file.flush()
-        times = max(1, 3 * 10**6 // gates)
-        return (seconds_of_abc("; ".join(["read_aiger " + file.name] * times)) - seconds_of_abc("")) / times * 10**9
+def reading_by_abc(path, gates):
+    """The nanoseconds in which berkeley-abc reads the file."""
+    times = max(1, 3 * 10**6 // gates)
+    return (seconds_of_abc("; ".join(["read_aiger " + path] * times)) - seconds_of_abc("")) / times * 10**9
+
+
+def row(figures, folder):
+    """The rows of one chain: one for each form."""
+    gates, built, laid_out, *forms = map(int, figures)
+    for name, (size, counted, written, read) in (("aag", forms[:4]), ("aig", forms[4:])):
+        line = "%9d %5s %10d %6.2f" % (gates, name, size, size / gates)
+        line += "".join(" %9.1f" % (nanoseconds / gates) for nanoseconds in (built, laid_out, counted, written, read))
+        if name == "aig" and shutil.which("berkeley-abc"):
+            other = reading_by_abc(os.path.join(folder, "%d.aig" % gates), gates)
+            line += " %9.1f %9.2f" % (other / gates, read / other)
+        yield line
 
 
 def main():
     sizes = [int(word) for word in sys.argv[1:]] or [10**4, 10**5, 10**6]
     with tempfile.TemporaryDirectory() as folder:
         run = subprocess.run(["rt", "run"], cwd=write_crate(folder, sizes), capture_output=True, text=True)
-    if run.returncode != 0:
-        sys.exit(run.stdout + run.stderr)
-    columns = ["building", "layout", "size", "writing", "reading"]
-    beside = shutil.which("berkeley-abc") is not None
-    print("%9s %10s" % ("gates", "bytes") + "".join(" %9s" % name for name in columns + ["abc", "ratio"] * beside))
-    for line in run.stdout.splitlines():
-        figures = line.split()
-        if len(figures) == 7 and all(figure.isdigit() for figure in figures):
-            gates, size, *times = map(int, figures)
-            row = "".join(" %9.1f" % (nanoseconds / gates) for nanoseconds in times)
-            if beside:
-                text = chain_text(gates)
-                assert len(text) == size
-                other = reading_by_abc(text, gates)
-                row += " %9.1f %9.2f" % (other / gates, times[-1] / other)
-            print("%9d %10d" % (gates, size) + row)
+        if run.returncode != 0:
+            sys.exit(run.stdout + run.stderr)
+        columns = ["building", "layout", "size", "writing", "reading", "abc", "ratio"]
+        print("%9s %5s %10s %6s" % ("gates", "form", "bytes", "a gate") + "".join(" %9s" % name for name in columns))
+        for line in run.stdout.splitlines():
+            figures = line.split()
+            if len(figures) == 11 and all(figure.isdigit() for figure in figures):
+                print("\n".join(row(figures, folder)))
 
 
 if __name__ == "__main__":

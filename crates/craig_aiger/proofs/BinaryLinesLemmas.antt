@@ -6,8 +6,9 @@ use Rattle.craig_spec.specs.AigerFault.{Fault}
 use Rattle.craig_spec.specs.AigerReading.{TextLine, ◌>>=◌, lines_of, placed, read_lines, without_empty_end}
 use Rattle.craig_spec.specs.AigerBinary.{lines_from, lines_place}
 use Rattle.craig_aiger.proofs.TextSymbolLemmas.{no_ok}
-use Rattle.craig_aiger.proofs.TextWordLemmas.{AreLines, ended, split_first, without_end-cons}
-use Rattle.craig_aiger_read.proofs.AssemblyLemmas.{ok-same}
+use Rattle.craig_aiger.proofs.TextWordLemmas.{AreLines, without_end-cons}
+use Rattle.craig_spec.proofs.TextWordLemmas.{ended, split_first}
+use Rattle.craig_spec.proofs.AigerBinaryLemmas.{ok-is}
 
 -- what stands between the ends of lines
 abbrev pieces : List ℕ → List (List ℕ)
@@ -59,6 +60,6 @@ after_one each end count before all lines after (Err f) e later = absurd (no_ok 
 
 -- the lines after those that were read
 pub after_lines : {A : Type 0} (each : List A → TextLine → Result A Fault) (end count : ℕ) (before all : List A) (lines after : List TextLine) → read_lines each end count before lines ≡ Ok (all, after) → after ≡ drop count lines
-after_lines {A} each end zero before all lines after e = ap (λ (p : List A × List TextLine). p.1) (sym (ok-same (before, lines) (all, after) e))
+after_lines {A} each end zero before all lines after e = ap (λ (p : List A × List TextLine). p.1) (sym (ok-is (before, lines) (all, after) e))
 after_lines each end (suc count) before all [] after e = absurd cc
 after_lines each end (suc count) before all (line ∷ lines) after e = after_one each end count before all lines after (each before line) e (λ before e. after_lines each end count before all lines after e)

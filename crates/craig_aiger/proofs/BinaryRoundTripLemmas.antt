@@ -15,11 +15,13 @@ use Rattle.craig_aiger.proofs.BinaryGatesLemmas.{gates_read}
 use Rattle.craig_aiger.proofs.BinaryLinesLemmas.{after_lines, front_lines, place_from}
 use Rattle.craig_aiger.proofs.BinaryTextLemmas.{aig_text-parts, binary_header_bytes, first_lines, first_lines-lines, last_bytes, last_lines, last_lines-lines}
 use Rattle.craig_aiger.proofs.RoundTripLemmas.{all_of_each, each_of_all, each_then, header_test, in_order, literals_within, inputs_read, outputs_read, to_output}
-use Rattle.craig_aiger.proofs.TextFileLemmas.{each_of, to_gate, to_map}
+use Rattle.craig_spec.proofs.EachLemmas.{each_of}
+use Rattle.craig_aiger.proofs.TextFileLemmas.{to_gate, to_map}
 use Rattle.craig_aiger.proofs.TextLinesLemmas.{each_line, length-each_line, output_bytes}
 use Rattle.craig_aiger.proofs.TextSectionLemmas.{bytes_of, counts, literals_of, read_outputs}
 use Rattle.craig_aiger.proofs.TextSymbolLemmas.{input_name, layout_symbols, output_name, read_names}
-use Rattle.craig_aiger.proofs.TextWordLemmas.{bytes-placed, ended, five_numbers, pieces-ended}
+use Rattle.craig_aiger.proofs.TextWordLemmas.{bytes-placed, five_numbers, pieces-ended}
+use Rattle.craig_spec.proofs.TextWordLemmas.{ended}
 use Rattle.craig_aiger.proofs.TextWrittenLemmas.{output_within}
 
 -- no variable is left over

@@ -7,7 +7,8 @@ use Rattle.craig_aiger.specs.BinaryText.{aig_header, aig_text, gate_groups}
 use Rattle.craig_aiger.specs.Layouts.{IsWritable, Layout}
 use Rattle.craig_aiger.specs.OutNames.{name_text}
 use Rattle.craig_aiger.proofs.TextLinesLemmas.{IsLine-name, IsLine-number, are_lines, cut_small, each_line, ended-lines, header_numbers, input_name_bytes, input_small, input_symbol-is, lacks-header, lacks-name, output_bytes, output_literal, output_name_bytes, output_symbol-is}
-use Rattle.craig_aiger.proofs.TextWordLemmas.{AreLines, AreLines-append, ended, ended-append, lacks-decimal}
+use Rattle.craig_aiger.proofs.TextWordLemmas.{AreLines, AreLines-append}
+use Rattle.craig_spec.proofs.TextWordLemmas.{ended, ended-append, lacks-decimal}
 
 -- what stands on the first line
 abbrev pub binary_header_bytes : ℕ → ℕ → ℕ → List ℕ

@@ -23,7 +23,8 @@ use Rattle.craig_aiger.specs.OutNames.{name_text}
 use Rattle.craig_aiger.specs.RoundTrip.{ReadsAs, SameCircuit}
 use Rattle.craig_spec.proofs.AigerDepthLemmas.{HaveDepths-ordered, InOrder}
 use Rattle.craig_spec.proofs.AigerMovedLemmas.{AreInside-ordered, InOrder-moved, IsOrder, IsOrder-by_depth, moved_within}
-use Rattle.craig_aiger.proofs.TextFileLemmas.{Each, each_mapped, each_of, file_is, numbered_same, to_gate, to_map, Within}
+use Rattle.craig_spec.proofs.EachLemmas.{Each, each_of, map_same}
+use Rattle.craig_aiger.proofs.TextFileLemmas.{each_mapped, file_is, numbered_same, to_gate, to_map, Within}
 use Rattle.craig_aiger.proofs.TextLinesLemmas.{aag_text-lines, body_lines, header_bytes, text_lines, text_lines-lines}
 use Rattle.craig_aiger.proofs.CircuitMovedLemmas.{cone_moved, value_moved}
 use Rattle.craig_aiger.proofs.TextSectionLemmas.{bytes_of, counts, literals_of, operands_of}
@@ -83,10 +84,6 @@ header_read line i o a bytes few few_outputs =
 
 read_through : (end : ℕ) (line : TextLine) (lines : List TextLine) (c : Counts) (w : Written) (f : AigerFile) → header_in line ≡ Ok c → written_in c end lines ≡ Ok w → file_written w ≡ Ok f → read_from end (line ∷ lines) ≡ Ok f
 read_through end line lines c w f header body file = rw (header, body, file) refl
-
-pub map_same : {X Y : Type 0} (f g : X → Y) (xs : List X) → Each (λ x. f x ≡ g x) xs → map f xs ≡ map g xs
-map_same f g [] h = refl
-map_same f g (x ∷ xs) h = ap (λ y. y ∷ map f xs) h.0 ∙ ap (λ l. g x ∷ l) (map_same f g xs h.1)
 
 pub each_then : {X : Type 0} (P Q : X → Type 0) (xs : List X) → ((x : X) → P x → Q x) → Each P xs → Each Q xs
 each_then P Q [] f h = tt

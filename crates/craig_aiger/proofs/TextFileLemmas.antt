@@ -1,5 +1,5 @@
 -- The file that is written so, and the circuit that it is.
-use Rattle.std.proofs.Common.{◌≡◌, ℕ, suc, ◌+◌, ◌<◌, ◌/◌, false, eqb, eq-eqb, List, [], ◌∷◌, ◌++◌, length, get_or, map, Some, None, Ok, slice_get, refl, ap, ◌∙◌, arith}
+use Rattle.std.proofs.Common.{◌≡◌, ℕ, ◌+◌, ◌<◌, ◌/◌, false, eqb, eq-eqb, List, [], ◌∷◌, ◌++◌, length, get_or, map, None, Ok, refl, ap, ◌∙◌, arith}
 use Rattle.std.specs.List.{find, range_with_len}
 use Rattle.std.specs.Option.{option_map}
 use Rattle.std.proofs.lemmas.Bool.Decides.{nat_tests}
@@ -10,17 +10,9 @@ use Rattle.craig_spec.specs.Circuit.{Gate}
 use Rattle.craig_spec.specs.AigerReading.{GateLine, RootLine, Symbol, Use, Written, by_depth, file_by, file_written, first_cyclic, first_gate, first_undefined, gate_use, is_new, numbered, numbered_gates, place_in, root_use, uses_of, uses_other, variables_of}
 use Rattle.craig_spec.proofs.AigerDepthLemmas.{HaveDepths-none, HaveDepths-ordered, InOrder}
 use Rattle.craig_spec.proofs.AigerOrderLemmas.{has-range}
+use Rattle.craig_spec.proofs.EachLemmas.{Each}
 use Rattle.craig_aiger.proofs.TextSectionLemmas.{operands_of, range-split, variables_of_gates}
 use Rattle.craig_aiger.proofs.TextWrittenLemmas.{range-one, written_of}
-
--- each has the property
-abbrev pub Each : {X : Type 0} → (X → Type 0) → List X → Type 0
-Each P [] = Unit {0}
-Each P (x ∷ xs) = P x × Each P xs
-
-pub each_of : {X : Type 0} (P : X → Type 0) (xs : List X) → ((i : ℕ) (x : X) → slice_get xs i ≡ Some x → P x) → Each P xs
-each_of P [] h = tt
-each_of P (x ∷ xs) h = (h 0 x refl, each_of P xs (λ i y e. h (suc i) y e))
 
 pub each_mapped : {X Y : Type 0} (P : Y → Type 0) (f : X → Y) (xs : List X) → Each P (map f xs) → Each (λ x. P (f x)) xs
 each_mapped P f [] h = tt

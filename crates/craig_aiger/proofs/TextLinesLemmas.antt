@@ -9,7 +9,8 @@ use Rattle.craig_aiger.specs.declared.out_name.OutName.{OutName}
 use Rattle.craig_aiger.specs.AsciiText.{aag_header, aag_text, gate_line, input_line, input_symbol, numbered_lines, output_line, output_symbol}
 use Rattle.craig_aiger.specs.Layouts.{IsWritable, Layout}
 use Rattle.craig_aiger.specs.OutNames.{family_text, name_text}
-use Rattle.craig_aiger.proofs.TextWordLemmas.{AreLines, AreLines-append, IsLine, Lacks, ended, ended-append, lacks-append, lacks-decimal}
+use Rattle.craig_aiger.proofs.TextWordLemmas.{AreLines, AreLines-append, IsLine}
+use Rattle.craig_spec.proofs.TextWordLemmas.{Lacks, ended, ended-append, lacks-append, lacks-decimal}
 
 -- what stands on each line
 abbrev pub input_bytes : ℕ → ℕ → List ℕ

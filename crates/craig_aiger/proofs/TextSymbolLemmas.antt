@@ -15,8 +15,9 @@ use Rattle.craig_aiger.specs.declared.out_name.OutName.{OutName}
 use Rattle.craig_aiger.specs.OutNames.{name_text}
 use Rattle.craig_aiger.proofs.TextLinesLemmas.{each_line, get_or-each_line, length-each_line, input_name_bytes, output_name_bytes}
 use Rattle.craig_aiger.proofs.TextSectionLemmas.{Section, Step, bytes_of, section}
-use Rattle.craig_aiger.proofs.TextWordLemmas.{after_byte, before_byte, lacks-decimal, number_in-decimal}
-use Rattle.craig_aiger_read.proofs.AssemblyLemmas.{ok-same}
+use Rattle.craig_aiger.proofs.TextWordLemmas.{after_byte, before_byte}
+use Rattle.craig_spec.proofs.TextWordLemmas.{lacks-decimal, number_in-decimal}
+use Rattle.craig_spec.proofs.AigerBinaryLemmas.{ok-is}
 
 -- a symbol for each of the list, which are numbered from n on
 abbrev pub symbols_from : {X : Type 0} → ℕ → (X → List ℕ) → ℕ → List X → List Symbol
@@ -78,7 +79,7 @@ read_one each end a b before all line lines after r (Err f) is e later = absurd 
 pub read_both : {A : Type 0} (each : List A → TextLine → Result A Fault) (end a b : ℕ) (before all : List A) (lines after : List TextLine) (r : Result (List A × List TextLine) Fault) → read_lines each end a before lines ≡ Ok (all, after) → read_lines each end b all after ≡ r → read_lines each end (a + b) before lines ≡ r
 read_both {A} each end zero b before all lines after r e f =
     let n : zero + b ≡ b = omega arith in
-    let pair : (before, lines) ≡ (all, after) = ok-same (before, lines) (all, after) e in
+    let pair : (before, lines) ≡ (all, after) = ok-is (before, lines) (all, after) e in
     let same : before ≡ all = ap (λ (p : List A × List TextLine). p.0) pair in
     let same_lines : lines ≡ after = ap (λ (p : List A × List TextLine). p.1) pair in
     rw (n, same, same_lines) f

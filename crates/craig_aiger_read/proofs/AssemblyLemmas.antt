@@ -6,6 +6,7 @@ use Rattle.std.specs.Option.{option_map}
 use Rattle.std.specs.List.{range_with_len}
 use Rattle.craig_spec.specs.AigerFault.{Fault, FaultKind}
 use Rattle.craig_spec.specs.AigerReading.{Symbol, Use, moved, name_of, named_latches, named_roots, unless_found, uses_other, ◌>>=◌}
+use Rattle.craig_spec.proofs.AigerBinaryLemmas.{ok-is}
 use Rattle.craig_aiger_read.specs.declared.latch_line.LatchLine.{LatchLine}
 use Rattle.craig_aiger_read.specs.declared.root_line.RootLine.{RootLine}
 use Rattle.craig_aiger_read.specs.ReadFiles.{latches_with, roots_with}
@@ -13,16 +14,12 @@ use Rattle.craig_aiger_read.specs.ReadNumbers.{lines_numbered}
 use Rattle.craig_aiger_read.specs.ReadOrder.{AreNewVariables, moved_by}
 use Rattle.craig_aiger_read.specs.ReadViews.{as_latch, as_root}
 
--- what is read is one thing
-pub ok-same : {A : Type 0} (x y : A) → ◌≡◌ {A = Result A Fault} (Ok x) (Ok y) → x ≡ y
-ok-same x y e = cc
-
 -- the first line that uses what is undefined is the fault
 abbrev pub UndefinedAt : List ℕ → List Use → Fault → Type 0
 UndefinedAt variables uses f = (u : Use) × (find (uses_other variables) uses ≡ Some u) × (f ≡ record { kind = FaultKind.Undefined; offset = u.offset })
 
 lines-by : {X : Type 0} (o : Option Use) (all : List X) (made : List X) → unless_found FaultKind.Undefined (option_map (λ (u : Use). u.offset) o) (Ok all) ≡ Ok made → (o ≡ None) × (made ≡ all)
-lines-by None all made e = (refl, sym (ok-same all made e))
+lines-by None all made e = (refl, sym (ok-is all made e))
 lines-by (Some u) all made e = cc
 
 pub lines-ok : {L X : Type 0} (variables : List ℕ) (use_of : L → Use) (make : L → X) (lines : List L) (made : List X) → lines_numbered variables use_of make lines ≡ Ok made →

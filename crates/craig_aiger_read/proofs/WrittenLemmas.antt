@@ -1,9 +1,9 @@
 -- Laws of the definitions of a text, section by section.
 use Rattle.std.proofs.Common.{◌≡◌, ℕ, zero, suc, ◌+◌, ◌<◌, ◌≤◌, List, [], ◌∷◌, ◌++◌, length, map, Result, Ok, Err, refl, sym, ap, arith}
-use Rattle.craig_aiger_read.proofs.AssemblyLemmas.{ok-same}
+use Rattle.craig_spec.proofs.AigerBinaryLemmas.{bind-is, ok-is}
 use Rattle.std.proofs.lemmas.List.{length-append, length-map}
 use Rattle.craig_spec.specs.AigerFault.{Fault}
-use Rattle.craig_spec.specs.AigerReading.{Counts, GateLine, LatchLine, RootLine, Symbol, TextLine, ◌>>=◌, gate_in, input_in, latch_in, leaves_of, read_lines, root_in, written_in}
+use Rattle.craig_spec.specs.AigerReading.{Counts, GateLine, LatchLine, RootLine, Symbol, TextLine, gate_in, input_in, latch_in, leaves_of, read_lines, root_in, written_in}
 use Rattle.craig_aiger_read.specs.ReadNames.{symbols_read}
 use Rattle.craig_aiger_read.specs.ReadViews.{behind_constant}
 
@@ -11,7 +11,7 @@ use Rattle.craig_aiger_read.specs.ReadViews.{behind_constant}
 pub behind_constant-ok : (found : Result (List ℕ × List TextLine) Fault) (keys : List ℕ) (lines : List TextLine) → behind_constant found ≡ Ok (keys, lines) →
     (inputs : List ℕ) × (found ≡ Ok (inputs, lines)) × (keys ≡ 0 ∷ inputs)
 behind_constant-ok (Ok x) keys lines e =
-    let same = ok-same (0 ∷ x.0, x.1) (keys, lines) e in
+    let same = ok-is (0 ∷ x.0, x.1) (keys, lines) e in
     (x.0, ap (λ z. Ok (x.0, z)) (ap (λ (z : List ℕ × List TextLine). z.1) same), sym (ap (λ (z : List ℕ × List TextLine). z.0) same))
 behind_constant-ok (Err f) keys lines e = cc
 
@@ -19,17 +19,13 @@ pub behind_constant-err : (found : Result (List ℕ × List TextLine) Fault) (f 
 behind_constant-err (Ok x) f e = cc
 behind_constant-err (Err g) f e = cc
 
-bind-ok : {A B : Type 0} (r : Result A Fault) (f : A → Result B Fault) (y : B) → (r >>= f) ≡ Ok y → (x : A) × (r ≡ Ok x) × (f x ≡ Ok y)
-bind-ok (Ok x) f y e = (x, refl, e)
-bind-ok (Err g) f y e = cc
-
 -- as many things are read as were asked for
 pub length-read_lines : {A : Type 0} (each : List A → TextLine → Result A Fault) (end count : ℕ) (before : List A) (lines : List TextLine) (read : List A) (rest : List TextLine) →
     read_lines each end count before lines ≡ Ok (read, rest) → length read ≡ length before + count
-length-read_lines {A = A} each end zero before lines read rest e = let same : before ≡ read = ap (λ (z : List A × List TextLine). z.0) (ok-same (before, lines) (read, rest) e) in omega (arith, ap length same)
+length-read_lines {A = A} each end zero before lines read rest e = let same : before ≡ read = ap (λ (z : List A × List TextLine). z.0) (ok-is (before, lines) (read, rest) e) in omega (arith, ap length same)
 length-read_lines each end (suc count) before [] read rest e = cc
 length-read_lines each end (suc count) before (line ∷ lines) read rest e =
-    let parts = bind-ok (each before line) (λ a. read_lines each end count (before ++ a ∷ []) lines) (read, rest) e in
+    let parts = bind-is (each before line) (λ a. read_lines each end count (before ++ a ∷ []) lines) (read, rest) e in
     omega (arith, length-read_lines each end count (before ++ parts.0 ∷ []) lines read rest parts.2, length-append before (parts.0 ∷ []))
 
 pub written-inputs : (c : Counts) (end : ℕ) (lines : List TextLine) (f : Fault) → read_lines (input_in c) end c.inputs [] lines ≡ Err f → written_in c end lines ≡ Err f

@@ -1,11 +1,19 @@
 -- The parts of which a circuit is made where a binary text has them.
-use Rattle.std.specs.Prelude.{◌≡◌, length, map}
+use Rattle.std.specs.Prelude.{◌≡◌, ℕ, ◌+◌, ◌*◌, List, [], length, map, Result}
+use Rattle.craig_spec.specs.AigerBinary.{binary_gates}
+use Rattle.craig_spec.specs.AigerFault.{Fault}
 use Rattle.craig_spec.specs.AigerReading.{AigerFile}
+use Rattle.craig_spec.specs.Circuit.{Gate}
 use Rattle.craig_aiger_read.specs.declared.binary_reading.BinaryParts.{BinaryParts}
+use Rattle.craig_aiger_read.specs.declared.counts.Counts.{Counts}
 use Rattle.craig_aiger_read.specs.declared.latch_line.LatchLine.{LatchLine}
 use Rattle.craig_aiger_read.specs.declared.root_line.RootLine.{RootLine}
 use Rattle.craig_aiger_read.specs.ReadFiles.{latches_with, roots_with}
 use Rattle.craig_aiger_read.specs.ReadViews.{as_operands}
+
+-- so many gates as the header counts, and what is behind them
+abbrev pub gates_counted : ℕ → Counts → List ℕ → Result (List Gate × List ℕ) Fault
+gates_counted end c bytes = binary_gates end c.gates (2 * (1 + c.inputs + c.latches)) [] bytes
 
 -- there is a name, or none, for each thing that has a line
 pub record HasNameEach (p : BinaryParts) : Type 0 where

@@ -1,6 +1,7 @@
 //! The gates of a binary text.
 ghost use Rattle.std.specs.Prelude.{◌≡◌, ◌+◌, ◌*◌, ◌≤◌, [], length, map, IfOk};
 ghost use Rattle.craig_spec.specs.AigerBinary.{binary_gate_in, binary_gates, delta_in};
+ghost use Rattle.craig_aiger_read.specs.ReadBinary.{gates_counted};
 ghost use Rattle.craig_aiger_read.specs.ReadFaults.{IsReadAs};
 ghost use Rattle.craig_aiger_read.specs.ReadViews.{as_operands};
 
@@ -17,7 +18,7 @@ pub(crate) fn read_binary_gates<'a>(
     text: &'a [u8],
 ) -> Result<(Vec<Gate>, &'a [u8]), AigerError>
     requires { length text.now ≤ end }
-    ensures read { IsReadAs (λ x. (map as_operands x.0.items, x.1.now)) result (binary_gates end counts.now.gates (2 * (1 + counts.now.inputs + counts.now.latches)) [] text.now) }
+    ensures read { IsReadAs (λ x. (map as_operands x.0.items, x.1.now)) result (gates_counted end counts.now text.now) }
     ensures shorter { IfOk result (λ x. length x.1.now ≤ length text.now) }
 {
     let mut gates = Vec::new(alloc);

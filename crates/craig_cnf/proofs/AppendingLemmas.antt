@@ -1,5 +1,5 @@
 -- Texts that are appended piece by piece, and the greatest variable of the clauses so far.
-use Rattle.std.proofs.Common.{◌≡◌, ◌∙◌, sym, ap, refl, ℕ, suc, ◌+◌, ◌<◌, Bool, true, false, cond, List, [], ◌∷◌, ◌++◌, length, get_or, take, map, max, Some, slice_get, codes, append_assoc, append-nil, length-take-le, Result, Ok, Err, OnOk, arith}
+use Rattle.std.proofs.Common.{◌≡◌, ◌∙◌, sym, ap, refl, ℕ, suc, ◌+◌, ◌<◌, List, [], ◌∷◌, ◌++◌, length, get_or, take, map, max, Some, slice_get, codes, append_assoc, append-nil, length-take-le, Result, Ok, Err, OnOk, arith}
 use Rattle.std.specs.List.{flat_map}
 use Rattle.std.proofs.lemmas.Grind.{flat_map-append}
 use Rattle.std.proofs.lemmas.List.{length-map, map_push, take_more}
@@ -10,19 +10,8 @@ use Rattle.craig_spec.specs.CircuitCnfText.{cnf_text, gate_clauses, gates_clause
 use Rattle.craig_spec.specs.DimacsText.{clause_line, dimacs_text, greatest_of_clause, greatest_of_clauses, header_bytes}
 use Rattle.craig_spec.specs.Literal.{Literal, Clause, negation}
 use Rattle.craig_aiger.specs.declared.out_name.OutName.{OutName}
-use Rattle.craig_cnf.specs.Appended.{AppendsOnly}
 use Rattle.craig_cnf.specs.LayoutClauses.{named_root, text_literal, text_operands, text_root}
 use Rattle.craig_cnf.specs.ScriptClauses.{named_clause, named_literal}
-
--- bytes came, or memory for them was wanted in vain
-pub AppendsOnly-tried : (b : Bool) (old new text : List ℕ) → new ≡ cond b (old ++ text) old → AppendsOnly old new
-AppendsOnly-tried true old new text e = record { text = text; behind = e }
-AppendsOnly-tried false old new text e = record { text = []; behind = e ∙ sym (append-nil old) }
-
--- first some bytes came, and then more
-pub AppendsOnly-then : (old mid new : List ℕ) → AppendsOnly old mid → AppendsOnly mid new → AppendsOnly old new
-AppendsOnly-then old mid new a b =
-    record { text = a.text ++ b.text; behind = b.behind ∙ ap (λ z. z ++ b.text) a.behind ∙ append_assoc old a.text b.text }
 
 -- a header and the lines of clauses
 pub dimacs_appended : {T E : Type 0} (r : Result T E) (greatest count : ℕ) (cs : List Clause) (begun first last : List ℕ) → greatest ≡ greatest_of_clauses cs → count ≡ length cs → first ≡ begun ++ (header_bytes greatest count ++ codes "\n") → OnOk r (last ≡ first ++ flat_map clause_line cs) → OnOk r (last ≡ begun ++ dimacs_text cs)

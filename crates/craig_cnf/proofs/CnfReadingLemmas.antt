@@ -11,7 +11,7 @@ use Rattle.craig_spec.specs.CircuitCnf.{CircuitClauses, Defined, Fixed, NamedRoo
 use Rattle.craig_spec.specs.CircuitCnfText.{cnf_text, root_line, root_text}
 use Rattle.craig_spec.specs.Dimacs.{ended_lines}
 use Rattle.craig_spec.specs.DimacsText.{clause_line, header_bytes, literal_text}
-use Rattle.craig_cnf.proofs.TextWordLemmas.{Lacks, ended, ended-append, lacks-append, split_first, split_last}
+use Rattle.craig_spec.proofs.TextWordLemmas.{Lacks, ended, ended-append, lacks-append, split_first, split_last}
 use Rattle.craig_cnf.proofs.DimacsReadingLemmas.{AllLack, AllLack-append, EachHasVariables, IsVariable, bytes_same, clause_bytes, clause_lines-ended, clauses_read, ended_lines-ended, lack_clauses, lacks_header, lacks_literal, literal_read}
 
 -- the variable of a root can be written

@@ -11,7 +11,7 @@ use Rattle.craig_spec.specs.AigerReading.{all_read, words_of}
 use Rattle.craig_spec.specs.Dimacs.{clause_of_line, clause_of_words, ended_lines, ended_pieces, is_by_variable, literal_of_word, read_dimacs, variable_of_word}
 use Rattle.craig_spec.specs.DimacsText.{clause_line, dimacs_text, greatest_of_clause, greatest_of_clauses, header_bytes, literal_text}
 use Rattle.craig_spec.specs.Literal.{Literal, Clause}
-use Rattle.craig_cnf.proofs.TextWordLemmas.{Lacks, ended, lacks-append, lacks-decimal, number_in-decimal, split_first, split_last}
+use Rattle.craig_spec.proofs.TextWordLemmas.{Lacks, ended, lacks-append, lacks-decimal, number_in-decimal, split_first, split_last}
 
 -- a number that a word can write, and not 0
 pub record IsVariable (x : ℕ) : Type 0 where

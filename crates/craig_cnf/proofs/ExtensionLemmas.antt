@@ -2,13 +2,12 @@
 use Rattle.std.proofs.Common.{◌≡◌, ◌∙◌, sym, ap, subst, refl, ℕ, zero, suc, ◌+◌, ◌-◌, ◌*◌, ◌/◌, ◌%◌, ◌<◌, ◌≤◌, Bool, true, false, not, ◌&&◌, ◌||◌, eqb, eqb-true, eq-eqb, nat_le, List, [], ◌∷◌, ◌++◌, length, get_or, map, filter, take, drop, Option, Some, None, slice_get, arith, length-take-le}
 use Rattle.std.specs.Bool.{if◌then◌else◌}
 use Rattle.std.specs.List.{list_all, list_any, range_with_len}
-use Rattle.std.proofs.Math.Seq.{drop-cons}
 use Rattle.std.proofs.lemmas.Bool.{or_left, or_right}
 use Rattle.std.proofs.lemmas.Bool.Decides.{nat_tests}
-use Rattle.std.proofs.lemmas.List.{get_or-map, length-map, take-append-drop}
+use Rattle.std.proofs.lemmas.List.{get_or-map, length-map}
 use Rattle.std.proofs.lemmas.List.Folds.{list_any-append}
 use Rattle.std.proofs.lemmas.Map.Views.{any-filter_same}
-use Rattle.std.proofs.lemmas.Option.{get_or_from_slice_get, slice_get_within}
+use Rattle.std.proofs.lemmas.Option.{slice_get_within}
 use Rattle.craig_spec.specs.Circuit.{Circuit, Gate, each_variable, gate_value, literal_value_in}
 use Rattle.craig_spec.specs.CircuitCnf.{CircuitClauses, NamedRoot, Operands, circuit_clauses, circuit_defined, circuit_literal, circuit_variable, circuit_with, clauses_of_cnf, gates_defined, is_root_before, occurs_in_text, read_cnf, script_variables, variable_of_root}
 use Rattle.craig_spec.specs.CircuitCnfText.{gates_clauses}
@@ -18,7 +17,7 @@ use Rattle.craig_spec.specs.Occurs.{occurs}
 use Rattle.craig_spec.specs.Truth.{Assignment, literal_value, variable_value}
 use Rattle.craig_spec.proofs.AigerOrderLemmas.{at_place, has-range, in_first}
 use Rattle.craig_spec.proofs.MemberLemmas.{Contains-from_slice_get, list_any-member, slice_get-to_map, slice_get-within}
-use Rattle.craig_cnf.proofs.VariableLemmas.{get_or-before, get_or-first, get_or-gate}
+use Rattle.craig_spec.proofs.VariableLemmas.{even_value, gates-around, get_or-before, get_or-first, get_or-gate}
 use Rattle.craig_cnf.specs.Extension.{AgreeUpTo, HasOneExtension, TextsHaveOneExtension}
 use Rattle.craig_cnf.proofs.ConjunctionLemmas.{AreConjunctions, conjunctions-model, model-conjunctions, operands_value}
 use Rattle.craig_cnf.proofs.GateClausesLemmas.{AreBefore, AreDefined, IsBefore, gates_are}
@@ -50,10 +49,6 @@ before_at gate (f ∷ gates) (suc j) g h is =
     let n : gate + suc j ≡ (gate + 1) + j = omega arith in
     rw n (before_at (gate + 1) gates j g h.1 is)
 
-gates-around : (gates : List Gate) (j : ℕ) (g : Gate) → slice_get gates j ≡ Some g → gates ≡ take j gates ++ g ∷ drop (suc j) gates
-gates-around gates j g is =
-    sym (take-append-drop j gates) ∙ ap (λ z. take j gates ++ z) (drop-cons gates j g (slice_get_within gates j g is)) ∙ ap (λ h. take j gates ++ h ∷ drop (suc j) gates) (get_or_from_slice_get gates j g g is)
-
 abbrev signed : ℕ → Bool → Bool
 signed r v = if eqb r 1 then not v else v
 
@@ -71,13 +66,6 @@ gate_conjunction first gates j g is left right =
     let same_right : get_or (each_variable gate_value first gates) (g.right / 2) false ≡ get_or (each_variable gate_value first (take j gates)) (g.right / 2) false =
     ap (λ gs. get_or (each_variable gate_value first gs) (g.right / 2) false) around ∙ get_or-before gate_value first (take j gates) g (drop (suc j) gates) (g.right / 2) false (omega (arith, front, right)) in
     own ∙ sym (ap (λ v. signed (g.left % 2) v && literal_value_in (each_variable gate_value first gates) g.right) same_left ∙ ap (λ v. literal_value_in (each_variable gate_value first (take j gates)) g.left && signed (g.right % 2) v) same_right)
-
--- a literal that is of an even number has its variable's value
-even_value : (values : List Bool) (v : ℕ) → literal_value_in values (2 * v) ≡ get_or values v false
-even_value values v =
-    let even : (2 * v) % 2 ≡ 0 = omega arith in
-    let half : (2 * v) / 2 ≡ v = omega arith in
-    rw (even, half) refl
 
 sign_half : (v : ℕ) (negated : Bool) → (2 * v + (if negated then 1 else 0)) / 2 ≡ v
 sign_half v true = omega arith

@@ -19,12 +19,13 @@ use Rattle.craig_aiger.specs.OutNames.{family_text, name_text}
 use Rattle.craig_aiger.specs.declared.family.Family.{Family}
 use Rattle.craig_aiger.specs.declared.family.Family.TheVariants.{McMillan, Pudlak, Inverse}
 use Rattle.craig_aiger.specs.declared.out_name.OutName.{OutName}
-use Rattle.craig_cnf.proofs.TextWordLemmas.{Lacks, lacks-append, lacks-decimal}
+use Rattle.craig_spec.proofs.TextWordLemmas.{Lacks, lacks-append, lacks-decimal}
 use Rattle.craig_cnf.specs.LayoutClauses.{layout_clauses, layout_text, named_root, text_literal, text_operands, text_root, text_variable}
 use Rattle.craig_cnf.proofs.CnfReadingLemmas.{AreWords, IsRootVariable, IsWord, IsWritten, text_read}
 use Rattle.craig_cnf.proofs.DimacsReadingLemmas.{EachHasVariables, IsVariable, greatest-small}
 use Rattle.craig_cnf.proofs.GateClausesLemmas.{AreBefore, gates_read, is_before-test}
-use Rattle.craig_cnf.proofs.LayoutReadingLemmas.{Each, Kind, OfGate, OfInput, are_before, each_of, gate_text, input_text, kind, literal_back, map_same, operands, rises, rising-filter, root_back, text_before}
+use Rattle.craig_spec.proofs.EachLemmas.{Each, each_of, map_same}
+use Rattle.craig_cnf.proofs.LayoutReadingLemmas.{Kind, OfGate, OfInput, are_before, gate_text, input_text, kind, literal_back, operands, rises, rising-filter, root_back, text_before}
 use Rattle.craig_cnf.proofs.OccurrenceLemmas.{length-gates_clauses, occurs-cases, occurs-operand, uses}
 
 -- the bytes of a name

@@ -15,19 +15,6 @@ use Rattle.craig_cnf.specs.LayoutClauses.{text_literal, text_operands, text_root
 use Rattle.craig_cnf.proofs.GateClausesLemmas.{AreBefore, IsBefore}
 use Rattle.craig_cnf.proofs.OrderLemmas.{Contains-from_test, EachBefore-from_pairs, rising_unique, test-from_Contains}
 
--- each has the property
-abbrev pub Each : {X : Type 0} → (X → Type 0) → List X → Type 0
-Each P [] = Unit {0}
-Each P (x ∷ xs) = P x × Each P xs
-
-pub each_of : {X : Type 0} (P : X → Type 0) (xs : List X) → ((i : ℕ) (x : X) → slice_get xs i ≡ Some x → P x) → Each P xs
-each_of P [] h = tt
-each_of P (x ∷ xs) h = (h 0 x refl, each_of P xs (λ i y e. h (suc i) y e))
-
-pub map_same : {X Y : Type 0} (f g : X → Y) (xs : List X) → Each (λ x. f x ≡ g x) xs → map f xs ≡ map g xs
-map_same f g [] h = refl
-map_same f g (x ∷ xs) h = ap (λ y. y ∷ map f xs) h.0 ∙ ap (λ l. g x ∷ l) (map_same f g xs h.1)
-
 pub range-outside : (a n j : ℕ) → j < a → list_any (eqb j) (range_with_len a n) ≡ false
 range-outside a zero j h = refl
 range-outside a (suc n) j h = let e : eqb j a ≡ false = grind (arith, nat_tests, h) in rw e (range-outside (a + 1) n j (omega arith))

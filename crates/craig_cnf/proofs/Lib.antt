@@ -1,5 +1,3 @@
-mod TextWordLemmas
-mod VariableLemmas
 mod OrderLemmas
 mod ScriptClauseLemmas
 mod DimacsReadingLemmas

@@ -1,4 +1,3 @@
-pub mod Appended
 pub mod ScriptClauses
 pub mod LayoutClauses
 pub mod Extension

@@ -3,7 +3,7 @@
 //! After want of memory a piece may be there in part, behind what was there before.
 ghost use Rattle.std.specs.Prelude.{◌≡◌, ◌++◌, codes, decimal, OnOk};
 ghost use Rattle.craig_spec.specs.DimacsText.{clause_line, header_bytes, literal_text};
-ghost use Rattle.craig_cnf.specs.Appended.{AppendsOnly};
+ghost use Rattle.craig_spec.specs.Appended.{AppendsOnly};
 
 use crate::text_literal::TextLiteral;
 use itoa::Buffer;

@@ -5,7 +5,7 @@ ghost use Rattle.std.specs.Prelude.{◌≡◌, ◌++◌, ◌<◌, All, codes, le
 ghost use Rattle.std.specs.List.{flat_map};
 ghost use Rattle.craig_spec.specs.DimacsText.{clause_line, dimacs_text, greatest_of_clauses, header_bytes};
 ghost use Rattle.craig_base.specs.Clauses.{IsNormal};
-ghost use Rattle.craig_cnf.specs.Appended.{AppendsOnly};
+ghost use Rattle.craig_spec.specs.Appended.{AppendsOnly};
 ghost use Rattle.craig_cnf.specs.ScriptClauses.{AreNamed, ReadsAsClauses, script_clauses};
 
 use crate::appending::{append_header, append_spaced};

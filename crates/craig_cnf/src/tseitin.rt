@@ -9,7 +9,7 @@ ghost use Rattle.craig_spec.specs.CircuitCnfText.{gate_clauses, gates_clauses, r
 ghost use Rattle.craig_spec.specs.DimacsText.{clause_line, header_bytes};
 ghost use Rattle.craig_aiger.specs.Layouts.{circuit_of};
 ghost use Rattle.craig_aiger.specs.OutNames.{family_text, name_text};
-ghost use Rattle.craig_cnf.specs.Appended.{AppendsOnly};
+ghost use Rattle.craig_spec.specs.Appended.{AppendsOnly};
 ghost use Rattle.craig_cnf.specs.LayoutClauses.{layout_clauses, layout_text, named_root, text_literal, text_operands, text_root, text_variable};
 
 use crate::appending::{append_clause, append_header, append_literal, append_number};

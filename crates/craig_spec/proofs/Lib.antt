@@ -8,3 +8,7 @@ pub mod AigerMovedLemmas
 pub mod AigerFileLemmas
 pub mod SevenBitsLemmas
 pub mod AigerBinaryLemmas
+pub mod TextWordLemmas
+pub mod VariableLemmas
+pub mod EachLemmas
+pub mod AppendedLemmas

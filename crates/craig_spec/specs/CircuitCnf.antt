@@ -8,7 +8,7 @@ use Rattle.std.specs.Option.{option_map}
 use Rattle.std.specs.List.{list_all, list_any, range_with_len}
 use Rattle.std.specs.Str.{bytes_eq}
 use Rattle.craig_spec.specs.AigerReading.{all_read, place_in, words_of, ◌>>?◌}
-use Rattle.craig_spec.specs.Circuit.{Circuit, Gate, Output}
+use Rattle.craig_spec.specs.Circuit.{Circuit}
 use Rattle.craig_spec.specs.Dimacs.{clause_of_line, ended_lines, literal_of_word}
 use Rattle.craig_spec.specs.DimacsText.{greatest_of_clauses, header_bytes}
 use Rattle.craig_spec.specs.Literal.{Literal, Clause, negation}

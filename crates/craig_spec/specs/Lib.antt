@@ -18,3 +18,4 @@ pub mod DimacsText
 pub mod Dimacs
 pub mod CircuitCnf
 pub mod CircuitCnfText
+pub mod Appended

@@ -1,4 +1,4 @@
-use Rattle.craig_cnf.proofs.AppendingLemmas.{AppendsOnly-then, AppendsOnly-tried}
+use Rattle.craig_spec.proofs.AppendedLemmas.{AppendsOnly-then, AppendsOnly-tried}
 use Rattle.std.specs.Result.{is_ok}
 use Rattle.std.proofs.Common.{true}
 use Rattle.craig_cnf.proofs.tseitin.append_output.Goals as goal

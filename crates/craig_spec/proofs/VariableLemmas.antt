@@ -1,9 +1,11 @@
 -- What the variables of a circuit have, one after another.
-use Rattle.std.proofs.Common.{◌≡◌, ℕ, ◌+◌, ◌<◌, List, [], ◌∷◌, ◌++◌, length, get_or, sym, refl, ◌∙◌, arith, length-append}
+use Rattle.std.proofs.Common.{◌≡◌, ℕ, ◌+◌, ◌<◌, Bool, false, ◌*◌, ◌/◌, ◌%◌, suc, List, [], ◌∷◌, ◌++◌, length, get_or, take, drop, slice_get, Some, sym, ap, refl, ◌∙◌, arith, length-append}
 use Rattle.std.specs.List.{fold}
-use Rattle.std.proofs.lemmas.List.{get_or_append_left, get_or_at}
+use Rattle.std.proofs.Math.Seq.{drop-cons}
+use Rattle.std.proofs.lemmas.List.{get_or_append_left, get_or_at, take-append-drop}
 use Rattle.std.proofs.lemmas.List.Sums.{fold-append}
-use Rattle.craig_spec.specs.Circuit.{Gate, each_variable}
+use Rattle.std.proofs.lemmas.Option.{get_or_from_slice_get, slice_get_within}
+use Rattle.craig_spec.specs.Circuit.{Gate, each_variable, literal_value_in}
 
 -- one gate more
 abbrev step : {T : Type 0} → (List T → Gate → T) → List T → Gate → List T
@@ -41,3 +43,15 @@ get_or-gate f first front g back i d is =
     let l : length (fold (step f) first front) ≡ i = length-steps f first front ∙ sym is in
     let one : length (step f (fold (step f) first front) g) ≡ length (fold (step f) first front) + length (f (fold (step f) first front) g ∷ []) = length-append (fold (step f) first front) (f (fold (step f) first front) g ∷ []) in
     rw (fold-append (step f) first front (g ∷ back)) (get_or-steps f (step f (fold (step f) first front) g) back i d (omega (arith, l, one)) ∙ get_or_at (fold (step f) first front) (f (fold (step f) first front) g) [] d i l)
+
+-- the gates before the one at a place and behind it
+pub gates-around : (gates : List Gate) (j : ℕ) (g : Gate) → slice_get gates j ≡ Some g → gates ≡ take j gates ++ g ∷ drop (suc j) gates
+gates-around gates j g is =
+    sym (take-append-drop j gates) ∙ ap (λ z. take j gates ++ z) (drop-cons gates j g (slice_get_within gates j g is)) ∙ ap (λ h. take j gates ++ h ∷ drop (suc j) gates) (get_or_from_slice_get gates j g g is)
+
+-- a literal that is of an even number has its variable's value
+pub even_value : (values : List Bool) (v : ℕ) → literal_value_in values (2 * v) ≡ get_or values v false
+even_value values v =
+    let even : (2 * v) % 2 ≡ 0 = omega arith in
+    let half : (2 * v) / 2 ≡ v = omega arith in
+    rw (even, half) refl

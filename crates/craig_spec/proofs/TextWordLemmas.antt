@@ -54,11 +54,11 @@ lacks-decimal b n not_digit h = lacks-digits b (decimal n) not_digit (digits-dec
 pub lacks-append : (b : ℕ) (xs ys : List ℕ) → Lacks b xs → Lacks b ys → Lacks b (xs ++ ys)
 lacks-append b xs ys p q = list_any-append (λ c. eqb c b) xs ys ∙ ap (λ t. t || list_any (λ c. eqb c b) ys) p ∙ q
 
-head_false : (a b : Bool) → (a || b) ≡ false → a ≡ false
+pub head_false : (a b : Bool) → (a || b) ≡ false → a ≡ false
 head_false true b e = e
 head_false false b e = refl
 
-tail_false : (a b : Bool) → (a || b) ≡ false → b ≡ false
+pub tail_false : (a b : Bool) → (a || b) ≡ false → b ≡ false
 tail_false true b e = absurd cc
 tail_false false b e = e
 

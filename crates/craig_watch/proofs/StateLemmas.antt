@@ -1,5 +1,5 @@
 -- Clauses under a trail stay right when a literal is forced and when literals of a clause change their places.
-use Rattle.std.proofs.Common.{◌≡◌, ◌≢◌, inl, inr, ℕ, ◌<◌, ◌≤◌, List, [], ◌∷◌, ◌++◌, length, get_or, swap, AllPairs, Contains, Option, Some, None, IsSome, refl, sym, ap, subst, ◌∙◌, arith}
+use Rattle.std.proofs.Common.{◌≡◌, ◌≢◌, inl, inr, ℕ, ◌-◌, ◌<◌, ◌≤◌, List, [], ◌∷◌, ◌++◌, length, get_or, swap, AllPairs, Contains, Option, Some, None, IsSome, refl, sym, ap, subst, ◌∙◌, arith}
 use Rattle.std.specs.Option.{option_map_or}
 use Rattle.std.proofs.lemmas.List.{get_or_default, append-nil, append_assoc}
 use Rattle.std.proofs.lemmas.List.Elements.{All-append, All-push}
@@ -162,7 +162,7 @@ turned s b id ok live long arena given only =
     }
 
 -- one of the first two literals of a clause changes places with a later one
-module _ (s : Watched) (b : ArenaView) (mid new : List WatchListView) (id : ClauseId) (place other index : ℕ) (m : MayMove s id place other index) (arena : IsArena b) (given : b.given ≡ s.arena.given) (only : ChangesClause s.arena b id.0 (swapped place other)) (old_one new_one : Literal) (is_old : (d : Literal) → get_or m.clause place d ≡ old_one) (is_new : (d : Literal) → get_or m.clause other d ≡ new_one) (pushed : ChangesList s.lists mid new_one (with_watch (list_of s.lists new_one) id (Blocker old_one))) (taken : TakesWatch mid new old_one index) where
+module _ (s : Watched) (b : ArenaView) (mid new : List WatchListView) (id : ClauseId) (place other index : ℕ) (m : MayMove s id place other index) (arena : IsArena b) (given : b.given ≡ s.arena.given) (only : ChangesClause s.arena b id.0 (swapped place other)) (old_one new_one blocker : Literal) (is_old : (d : Literal) → get_or m.clause place d ≡ old_one) (is_new : (d : Literal) → get_or m.clause other d ≡ new_one) (is_blocker : (d : Literal) → get_or m.clause (1 - place) d ≡ blocker) (pushed : ChangesList s.lists mid new_one (with_watch (list_of s.lists new_one) id (Blocker blocker))) (taken : TakesWatch mid new old_one index) where
   low_place : place < length m.clause
   low_place = (let f = m.first in let l = m.later in let w = m.within in omega arith)
 
@@ -181,11 +181,14 @@ module _ (s : Watched) (b : ArenaView) (mid new : List WatchListView) (id : Clau
   ones_differ : old_one ≢ new_one
   ones_differ = differ s.arena b id m.clause place other m.held only reorders m.first m.later m.within apart old_one new_one is_old is_new
 
-  right_beside : IsBesideOf s.arena new_one id (Blocker old_one)
+  low_mate : 1 - place < length m.clause
+  low_mate = (let l = m.later in let w = m.within in omega arith)
+
+  right_beside : IsBesideOf s.arena new_one id (Blocker blocker)
   right_beside d held = (
       let both : Some m.clause ≡ Some d = sym m.held ∙ held in
       let same : m.clause ≡ d = cc in
-      subst (λ (x : Clause). Contains x old_one) same (place, low_place, is_old old_one))
+      subst (λ (x : Clause). Contains x blocker) same (1 - place, low_mate, is_blocker blocker))
 
   pub moved : Exchanges s (record { arena = b; assigned = s.assigned; lists = new; looked = s.looked; walked = s.walked }) id place other
   moved =
@@ -196,7 +199,7 @@ module _ (s : Watched) (b : ArenaView) (mid new : List WatchListView) (id : Clau
           sound = record {
             consistent = IsConsistent-reordered (shown s) b m.sound.consistent arena reorders;
             watched = record {
-              listed = AreListed-moved s.arena b id m.clause place other m.held only reorders m.first m.later m.within apart old_one new_one is_old is_new s.assigned.vars s.lists mid new index (Blocker old_one) m.sound.watched.listed pushed taken listed_low listed_entry right_beside;
+              listed = AreListed-moved s.arena b id m.clause place other m.held only reorders m.first m.later m.within apart old_one new_one is_old is_new s.assigned.vars s.lists mid new index (Blocker blocker) m.sound.watched.listed pushed taken listed_low listed_entry right_beside;
               settled = AreSettled-reordered s.arena b s.assigned.trail s.looked s.walked m.sound.watched.settled reorders (λ k l w falsified. elim (watches-now s.arena b id m.clause place other m.held only reorders m.first m.later m.within apart old_one new_one is_old is_new k l w) [
                 | inl new ↦ inr (subst (λ (n : ℕ). s.looked ≤ n) (sym new.0) (m.right l (subst (IsFalse s.assigned.trail) (new.1 ∙ sym (is_new l)) falsified)))
                 | inr old ↦ inl old.0

@@ -1,5 +1,5 @@
 -- Visits of the entries in the list of a literal that became false.
-use Rattle.std.proofs.Common.{◌≡◌, ◌≢◌, inl, inr, ℕ, suc, ◌+◌, ◌*◌, ◌<◌, ◌≤◌, Bool, true, false, cond, List, [], ◌∷◌, ◌++◌, length, get_or, All, Contains, Some, None, refl, sym, ap, subst, ◌∙◌, arith}
+use Rattle.std.proofs.Common.{◌≡◌, ◌≢◌, inl, inr, ℕ, suc, ◌+◌, ◌-◌, ◌*◌, ◌<◌, ◌≤◌, Bool, true, false, cond, List, [], ◌∷◌, ◌++◌, length, get_or, All, Contains, Some, None, refl, sym, ap, subst, ◌∙◌, arith}
 use Rattle.std.proofs.lemmas.Bool.Decides.{leb_tells}
 use Rattle.std.proofs.Common.{set, eqb, eqb-true}
 use Rattle.std.proofs.lemmas.Bool.{eqb-false}
@@ -15,20 +15,18 @@ use Rattle.craig_watch.specs.declared.trail_entry.TrailEntry.{TrailEntry}
 use Rattle.craig_watch.specs.declared.beside.Beside.{Beside}
 use Rattle.craig_watch.specs.declared.beside.Beside.TheVariants.{Other, Blocker}
 use Rattle.craig_watch.specs.declared.value.Value.TheVariants.{True, False, Free}
-use Rattle.craig_watch.specs.declared.visit.Visit.{Visit}
-use Rattle.craig_watch.specs.declared.visit.Visit.TheVariants.{Stays, Moved, Conflict}
+use Rattle.craig_watch.specs.declared.visit.Visit.TheVariants.{Stays, Moved}
 use Rattle.craig_watch.specs.declared.watched.Watched.{Watched}
 use Rattle.craig_watch.specs.Trail.{Trail, entry_of, value_under, IsFalse, level_at, decisions}
 use Rattle.craig_watch.specs.Held.{HeldView, held_clause, IsConsistent, IsFalsified}
 use Rattle.craig_watch.specs.Watches.{WatchListView, ChangesList, Watches, IsPairOf, IsBeside, IsBesideOf, HasTrueUpTo, list_of}
 use Rattle.craig_watch.proofs.ListedLemmas.{IsRightList, right-list, listed-from}
-use Rattle.craig_watch.specs.WatchedState.{Continues, Exchanges, HasReached, HasVisited, IsForcedBy, IsOpenPlace, IsReached, IsSound, IsVisiting, LosesEntry, ids_of, shown, with_forced}
+use Rattle.craig_watch.specs.WatchedState.{Continues, HasReached, HasVisited, IsForcedBy, IsOpenPlace, IsReached, IsSound, IsVisiting, LosesEntry, StandsFirst, ids_of, shown, with_forced}
 use Rattle.craig_watch.proofs.TrailLemmas.{levels-bounded}
 use Rattle.craig_watch.proofs.PlacesLemmas.{entry-true, place-found, true-entry}
 use Rattle.craig_watch.proofs.LevelsLemmas.{level_at-entry}
 use Rattle.craig_watch.proofs.AssignedLemmas.{found-last}
 use Rattle.craig_watch.proofs.HeldLemmas.{IsConsistent-forced, forced}
-use Rattle.craig_watch.proofs.SwapLemmas.{exchanged, swap-at}
 use Rattle.craig_watch.proofs.SettledLemmas.{kept-value, level_at-longer, false≢free}
 use Rattle.craig_watch.proofs.StateLemmas.{IsLengthened-none, Continues-forced, reached-on, live-literals_at, live-held}
 
@@ -222,47 +220,48 @@ reached-moved s new l index v on lost =
     let less = lost.shorter in
     (λ k d low within. subst (λ (x : ClauseId). IsReached new l x.0) (sym (lost.before k d low)) (reached-on s new l (get_or (ids_of s l) k d).0 on v.falsified (v.reached k d low (omega arith))), lost.shorter)
 
--- all literals behind the first are false
-behind-first : (t : Trail) (c : Clause) (l : Literal) → get_or c 1 l ≡ l → IsFalse t l → IsOpenPlace t c None → (k : ℕ) (d : Literal) → 0 < k → k < length c → IsFalse t (get_or c k d)
-behind-first t c l second falsified rest k d high low =
-    elim (leb_tells k 1) [
-      | inl one ↦ let p : k ≤ 1 = one.1 in let is : k ≡ 1 = omega arith in
-          subst (λ (j : ℕ). IsFalse t (get_or c j d)) (sym is) (subst (IsFalse t) (sym (get_or_default c 1 d l (omega arith) ∙ second)) falsified)
-      | inr more ↦ rest k d (let p : 1 < k = more.1 in omega arith) low
+-- all literals but the other watch are false
+all-but : (t : Trail) (c : Clause) (l : Literal) (place : ℕ) → StandsFirst c l place → IsFalse t l → IsOpenPlace t c None → (k : ℕ) (d : Literal) → k ≢ 1 - place → k < length c → IsFalse t (get_or c k d)
+all-but t c l place own falsified rest k d ne low =
+    elim (leb_tells 2 k) [
+      | inl later ↦ rest k d (let p : 2 ≤ k = later.1 in omega arith) low
+      | inr early ↦ let p : k < 2 = early.1 in let f = own.first in let is : k ≡ place = omega (arith, ne) in
+          subst (λ (j : ℕ). IsFalse t (get_or c j d)) (sym is) (subst (IsFalse t) (sym (get_or_default c place d l (omega arith) ∙ own.at)) falsified)
     ]
 
-pub unit-falsified : (s : Watched) (l : Literal) (id : ClauseId) (lits : Clause) (first : Literal) → IsLive s.arena id.0 → IsFalse s.assigned.trail l → get_or (literals_at s.arena id.0) 1 l ≡ l → IsOpenPlace s.assigned.trail (literals_at s.arena id.0) None → lits ≡ literals_at s.arena id.0 → first ≡ get_or lits 0 first → IsFalse s.assigned.trail first → IsFalsified (shown s) id.0
-unit-falsified s l id lits first live falsified second rest same at first_false =
+pub unit-falsified : (s : Watched) (l : Literal) (id : ClauseId) (lits : Clause) (other : Literal) (place : ℕ) → IsLive s.arena id.0 → IsFalse s.assigned.trail l → StandsFirst (literals_at s.arena id.0) l place → IsOpenPlace s.assigned.trail (literals_at s.arena id.0) None → lits ≡ literals_at s.arena id.0 → other ≡ get_or lits (1 - place) other → IsFalse s.assigned.trail other → IsFalsified (shown s) id.0
+unit-falsified s l id lits other place live falsified own rest same at other_false =
     let c : Clause = literals_at s.arena id.0 in (
       c,
       live-literals_at s.arena id.0 live,
-      λ k d low. elim (leb_tells k 0) [
-        | inl none ↦ let p : k ≤ 0 = none.1 in let is : k ≡ 0 = omega arith in
-            subst (λ (j : ℕ). IsFalse s.assigned.trail (get_or c j d)) (sym is) (subst (IsFalse s.assigned.trail) (sym (get_or_default c 0 d first (omega arith) ∙ ap (λ (ys : Clause). get_or ys 0 first) (sym same) ∙ sym at)) first_false)
-        | inr some ↦ behind-first s.assigned.trail c l second falsified rest k d (let p : 0 < k = some.1 in omega arith) low
-      ],
+      λ k d low. elim (eqb k (1 - place)) as (λ b. eqb k (1 - place) ≡ b → IsFalse s.assigned.trail (get_or c k d)) [
+        | true ↦ λ eq. let is : k ≡ 1 - place = eqb-true k (1 - place) eq in
+            subst (λ (j : ℕ). IsFalse s.assigned.trail (get_or c j d)) (sym is) (subst (IsFalse s.assigned.trail) (sym (get_or_default c (1 - place) d other (omega arith) ∙ ap (λ (ys : Clause). get_or ys (1 - place) other) (sym same) ∙ sym at)) other_false)
+        | false ↦ λ eq. all-but s.assigned.trail c l place own falsified rest k d (eqb-false k (1 - place) eq) low
+      ] refl,
     )
 
-pub unit-forced : (s : Watched) (l : Literal) (id : ClauseId) (lits : Clause) (first : Literal) → IsLive s.arena id.0 → IsFalse s.assigned.trail l → get_or (literals_at s.arena id.0) 1 l ≡ l → IsOpenPlace s.assigned.trail (literals_at s.arena id.0) None → lits ≡ literals_at s.arena id.0 → 0 < length lits → first ≡ get_or lits 0 first → value_under s.assigned.trail first ≡ Free → IsForcedBy s first id.0
-unit-forced s l id lits first live falsified second rest same long at free =
+pub unit-forced : (s : Watched) (l : Literal) (id : ClauseId) (lits : Clause) (other : Literal) (place : ℕ) → IsLive s.arena id.0 → IsFalse s.assigned.trail l → StandsFirst (literals_at s.arena id.0) l place → IsOpenPlace s.assigned.trail (literals_at s.arena id.0) None → lits ≡ literals_at s.arena id.0 → 1 < length lits → other ≡ get_or lits (1 - place) other → value_under s.assigned.trail other ≡ Free → IsForcedBy s other id.0
+unit-forced s l id lits other place live falsified own rest same long at free =
     let c : Clause = literals_at s.arena id.0 in
-    let here : get_or c 0 first ≡ first = ap (λ (ys : Clause). get_or ys 0 first) (sym same) ∙ sym at in
-    let some : 0 < length c = subst (λ (ys : Clause). 0 < length ys) same long in
+    let here : get_or c (1 - place) other ≡ other = ap (λ (ys : Clause). get_or ys (1 - place) other) (sym same) ∙ sym at in
+    let some : 1 < length c = subst (λ (ys : Clause). 1 < length ys) same long in
+    let low_mate : 1 - place < length c = omega arith in
     record {
       clause = c;
       held = live-literals_at s.arena id.0 live;
       forces = record {
-        has = (0, some, here);
-        others = λ m (k, low, is) ne. elim (leb_tells k 0) [
-          | inl none ↦ let p : k ≤ 0 = none.1 in let zero_is : k ≡ 0 = omega arith in
-              absurd (ne (sym is ∙ ap (λ (j : ℕ). get_or c j m) zero_is ∙ get_or_default c 0 m first some ∙ here))
-          | inr more ↦ subst (IsFalse s.assigned.trail) is (behind-first s.assigned.trail c l second falsified rest k m (let p : 0 < k = more.1 in omega arith) low)
-        ];
+        has = (1 - place, low_mate, here);
+        others = λ m (k, low, is) ne. elim (eqb k (1 - place)) as (λ b. eqb k (1 - place) ≡ b → IsFalse s.assigned.trail m) [
+          | true ↦ λ eq. let is_mate : k ≡ 1 - place = eqb-true k (1 - place) eq in
+              absurd (ne (sym is ∙ ap (λ (j : ℕ). get_or c j m) is_mate ∙ get_or_default c (1 - place) m other low_mate ∙ here))
+          | false ↦ λ eq. subst (IsFalse s.assigned.trail) is (all-but s.assigned.trail c l place own falsified rest k m (eqb-false k (1 - place) eq) low)
+        ] refl;
       };
       free = free;
     }
 
--- the visit goes on after the first two literals of the clause were exchanged
+-- the visit goes on in what continues
 pub visiting-on : (s new : Watched) (l : Literal) (n : ℕ) → l.var < s.assigned.vars → IsFalse s.assigned.trail l → level_at s.assigned.trail l ≡ decisions s.assigned.trail → Continues s new → n < length (ids_of new l) → HasReached new l n → IsVisiting new l n
 visiting-on s new l n known falsified present on low reached =
     let trail : new.assigned.trail ≡ s.assigned.trail ++ on.lengthened.added = on.lengthened.trail in
@@ -277,37 +276,27 @@ visiting-on s new l n known falsified present on low reached =
       reached = reached;
     }
 
-pub visiting-turned : (s new : Watched) (l : Literal) (index : ℕ) (id : ClauseId) → IsVisiting s l index → Exchanges s new id 0 1 → new.lists ≡ s.lists → IsVisiting new l index
-visiting-turned s new l index id v x lists =
-    let ids : ids_of new l ≡ ids_of s l = ap (λ (w : List WatchListView). (list_of w l).ids) lists in
-    let long = ap length ids in
-    let low = v.within in
-    visiting-on s new l index v.known v.falsified v.present x.continues (omega arith)
-    (λ k d before within. subst (λ (xs : List ClauseId). IsReached new l (get_or xs k d).0) (sym ids) (reached-on s new l (get_or (ids_of s l) k d).0 x.continues v.falsified (v.reached k d before (omega arith))))
+-- a literal that watches a clause stands first or second
+pub stands-first : (a : ArenaView) (id : ℕ) (l : Literal) (lits : Clause) (x : Literal) → Watches a id l → lits ≡ literals_at a id → x ≡ get_or lits 0 x → x ≡ l → StandsFirst (literals_at a id) l 0
+stands-first a id l lits x w same at is =
+    let one : literals_at a id ≡ w.clause = literals_at-found a id w.clause w.held in
+    let long : 1 < length (literals_at a id) = subst (λ (d : Clause). 1 < length d) (sym one) w.watch.long in
+    record { first = omega arith; at = get_or_default (literals_at a id) 0 l x (omega arith) ∙ ap (λ (d : Clause). get_or d 0 x) (sym same) ∙ sym at ∙ is }
 
--- the second literal after the exchange is the first from before
-pub second-turned : (s new : Watched) (l : Literal) (id : ClauseId) (lits : Clause) (x : Literal) → Exchanges s new id 0 1 → 1 < length (literals_at s.arena id.0) → lits ≡ literals_at s.arena id.0 → x ≡ get_or lits 0 x → x ≡ l → get_or (literals_at new.arena id.0) 1 l ≡ l
-second-turned s new l id lits x h long same at is =
-    let c : Clause = literals_at s.arena id.0 in
-    let one : exchanged 0 1 1 ≡ 0 = refl in
-    ap (λ (d : Clause). get_or d 1 l) h.literals ∙ swap-at c 0 1 1 l (omega arith) long long ∙ ap (λ (k : ℕ). get_or c k l) one ∙ get_or_default c 0 l x (omega arith) ∙ ap (λ (d : Clause). get_or d 0 x) (sym same) ∙ sym at ∙ is
-
--- and where the first is another, it is the second
-pub second-other : (s : Watched) (l : Literal) (index : ℕ) (id : ClauseId) (lits : Clause) (x : Literal) → IsVisiting s l index → id ≡ get_or (ids_of s l) index id → lits ≡ literals_at s.arena id.0 → x ≡ get_or lits 0 x → x ≢ l → get_or (literals_at s.arena id.0) 1 l ≡ l
-second-other s l index id lits x v entry same at ne =
-    let w = entry-watches s l index id v.sound v.within entry in
-    let one : literals_at s.arena id.0 ≡ w.clause = literals_at-found s.arena id.0 w.clause w.held in
+pub stands-second : (a : ArenaView) (id : ℕ) (l : Literal) (lits : Clause) (x : Literal) → Watches a id l → lits ≡ literals_at a id → x ≡ get_or lits 0 x → x ≢ l → StandsFirst (literals_at a id) l 1
+stands-second a id l lits x w same at ne =
+    let one : literals_at a id ≡ w.clause = literals_at-found a id w.clause w.held in
     let f = w.watch.first in
     let two = w.watch.long in
-    elim (leb_tells w.watch.place 0) [
-      | inl none ↦ let p : w.watch.place ≤ 0 = none.1 in let is : w.watch.place ≡ 0 = omega arith in
-          absurd (ne (at ∙ ap (λ (d : Clause). get_or d 0 x) (same ∙ one) ∙ get_or_default w.clause 0 x l (omega arith) ∙ ap (λ (k : ℕ). get_or w.clause k l) (sym is) ∙ w.watch.at))
-      | inr some ↦ let p : 0 < w.watch.place = some.1 in let is : w.watch.place ≡ 1 = omega arith in
-          ap (λ (d : Clause). get_or d 1 l) one ∙ ap (λ (k : ℕ). get_or w.clause k l) (sym is) ∙ w.watch.at
-    ]
+    record {
+      first = omega arith;
+      at = elim (leb_tells w.watch.place 0) [
+        | inl none ↦ let p : w.watch.place ≤ 0 = none.1 in let is : w.watch.place ≡ 0 = omega arith in
+            absurd (ne (at ∙ ap (λ (d : Clause). get_or d 0 x) (same ∙ one) ∙ get_or_default w.clause 0 x l (omega arith) ∙ ap (λ (k : ℕ). get_or w.clause k l) (sym is) ∙ w.watch.at))
+        | inr some ↦ let p : 0 < w.watch.place = some.1 in let is : w.watch.place ≡ 1 = omega arith in
+            ap (λ (d : Clause). get_or d 1 l) one ∙ ap (λ (k : ℕ). get_or w.clause k l) (sym is) ∙ w.watch.at
+      ];
+    }
 
--- the same visit, seen from before the exchange
-pub visited-turned : (s mid new : Watched) (l : Literal) (index : ℕ) (r : Visit) → mid.lists ≡ s.lists → HasVisited mid new l index r → HasVisited s new l index r
-visited-turned s mid new l index Stays lists h = (h.0, h.1 ∙ ap (λ (w : List WatchListView). length (list_of w l).ids) lists)
-visited-turned s mid new l index Moved lists h = (h.0, h.1 ∙ ap (λ (w : List WatchListView). length (list_of w l).ids) lists)
-visited-turned s mid new l index (Conflict id) lists h = h
+pub watches-long : (a : ArenaView) (id : ℕ) (l : Literal) → Watches a id l → 1 < length (literals_at a id)
+watches-long a id l w = subst (λ (d : Clause). 1 < length d) (sym (literals_at-found a id w.clause w.held)) w.watch.long

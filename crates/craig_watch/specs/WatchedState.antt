@@ -61,6 +61,13 @@ pub record IsVisiting (s : Watched) (l : Literal) (index : ℕ) : Type 0 where
   -- those before it were reached
   pub reached : HasReached s l index
 
+-- the literal stands at the place, which is one of the first two
+pub record StandsFirst (c : Clause) (l : Literal) (place : ℕ) : Type 0 where
+  -- it is one of the first two
+  pub first : place < 2
+  -- the literal stands there
+  pub at : slice_index_or c place l ≡ l
+
 -- what the visit of an entry has brought
 abbrev pub HasVisited : Watched → Watched → Literal → ℕ → Visit → Type 0
 HasVisited old new l index Stays = HasReached new l (index + 1) × (length (ids_of new l) ≡ length (ids_of old l))

@@ -4,8 +4,8 @@ ghost use Rattle.craig_spec.specs.Literal.{Literal};
 ghost use Rattle.craig_base.specs.Arena.{IsLive, literals_at};
 ghost use Rattle.craig_watch.specs.declared.beside.Beside.TheVariants.{Other};
 ghost use Rattle.craig_watch.specs.Trail.{IsFalse, decisions, level_at};
-ghost use Rattle.craig_watch.specs.Watches.{IsWatch, list_of};
-ghost use Rattle.craig_watch.specs.WatchedState.{Continues, Exchanges, HasVisited, HasWalkedList, IsForcedBy, IsOpenPlace, IsSound, IsVisiting, LosesEntry, MayMove, ids_of, with_forced};
+ghost use Rattle.craig_watch.specs.Watches.{Watches, list_of};
+ghost use Rattle.craig_watch.specs.WatchedState.{Continues, Exchanges, HasVisited, HasWalkedList, IsForcedBy, IsOpenPlace, IsSound, IsVisiting, LosesEntry, MayMove, StandsFirst, ids_of, with_forced};
 
 use crate::beside::Beside;
 use crate::trail_entry::TrailEntry;
@@ -60,7 +60,8 @@ impl Watched {
         let lits = self.arena.lits(id);
         let old = lits[place];
         let new = lits[other];
-        self.lists.push(new, id, Beside::Blocker(old))?;
+        let blocker = lits[1 - place];
+        self.lists.push(new, id, Beside::Blocker(blocker))?;
         self.lists.remove(old, index);
         self.arena.swap(id, place, other);
         Ok(())
@@ -136,6 +137,14 @@ impl Watched {
         }
     }
 
+    /// At which of the first two places of a clause the literal stands that watches it.
+    fn own_place(&self, id: ClauseId, lit: Lit) -> usize
+        requires { Watches self.now.arena id.0 lit }
+        ensures { StandsFirst (literals_at self.now.arena id.0) lit result }
+    {
+        if self.arena.lits(id)[0] == lit { 0 } else { 1 }
+    }
+
     /// Visits an entry, and its clause.
     fn visit_long(&mut self, lit: Lit, index: usize) -> Result<Visit, AllocError>
         requires { IsVisiting self.old lit index }
@@ -143,63 +152,55 @@ impl Watched {
         ensures visited { IfOk result (λ v. HasVisited self.old self.new lit index v) }
     {
         let id = self.lists.id(lit, index);
-        if self.arena.lits(id)[0] == lit {
-            self.turn(id);
-            return self.visit_second(lit, index, id);
-        }
-        self.visit_second(lit, index, id)
-    }
-
-    /// Visits a clause whose second literal is the one that became false.
-    fn visit_second(&mut self, lit: Lit, index: usize, id: ClauseId) -> Result<Visit, AllocError>
-        requires visiting { IsVisiting self.old lit index }
-        requires entry { slice_index_or (ids_of self.old lit) index id ≡ id }
-        requires second { slice_index_or (literals_at self.old.arena id.0) 1 lit ≡ lit }
-        ensures continues { Continues self.old self.new }
-        ensures visited { IfOk result (λ v. HasVisited self.old self.new lit index v) }
-    {
-        let first = self.arena.lits(id)[0];
-        match self.assigned.value(first) {
+        let place = self.own_place(id, lit);
+        let other = self.arena.lits(id)[1 - place];
+        match self.assigned.value(other) {
             Value::True => {
-                self.lists.set_beside(lit, index, Beside::Blocker(first));
+                self.lists.set_beside(lit, index, Beside::Blocker(other));
                 Ok(Visit::Stays)
             }
-            _ => self.visit_rest(lit, index, id),
+            _ => self.visit_rest(lit, index, id, place),
         }
     }
 
-    /// Moves the watch of a clause whose second literal became false, where a later one isn't.
-    fn visit_rest(&mut self, lit: Lit, index: usize, id: ClauseId) -> Result<Visit, AllocError>
+    /// Moves the watch of a clause that became false, where a literal behind the first two isn't.
+    fn visit_rest(
+        &mut self,
+        lit: Lit,
+        index: usize,
+        id: ClauseId,
+        place: usize,
+    ) -> Result<Visit, AllocError>
         requires visiting { IsVisiting self.old lit index }
         requires entry { slice_index_or (ids_of self.old lit) index id ≡ id }
-        requires second { slice_index_or (literals_at self.old.arena id.0) 1 lit ≡ lit }
+        requires own { StandsFirst (literals_at self.old.arena id.0) lit place }
         ensures continues { Continues self.old self.new }
         ensures visited { IfOk result (λ v. HasVisited self.old self.new lit index v) }
     {
         match self.open_place(id) {
-            Some(place) => {
-                self.move_watch(id, 1, place, index)?;
+            Some(open) => {
+                self.move_watch(id, place, open, index)?;
                 Ok(Visit::Moved)
             }
-            None => Ok(self.visit_unit(lit, index, id)),
+            None => Ok(self.visit_unit(lit, index, id, place)),
         }
     }
 
-    /// Visits a clause of which only the first literal may not be false.
-    fn visit_unit(&mut self, lit: Lit, index: usize, id: ClauseId) -> Visit
+    /// Visits a clause of which only the other watch may not be false.
+    fn visit_unit(&mut self, lit: Lit, index: usize, id: ClauseId, place: usize) -> Visit
         requires visiting { IsVisiting self.old lit index }
         requires entry { slice_index_or (ids_of self.old lit) index id ≡ id }
-        requires second { slice_index_or (literals_at self.old.arena id.0) 1 lit ≡ lit }
+        requires own { StandsFirst (literals_at self.old.arena id.0) lit place }
         requires rest { IsOpenPlace self.old.assigned.trail (literals_at self.old.arena id.0) None }
         ensures continues { Continues self.old self.new }
         ensures visited { HasVisited self.old self.new lit index result }
     {
-        let first = self.arena.lits(id)[0];
-        match self.assigned.value(first) {
+        let other = self.arena.lits(id)[1 - place];
+        match self.assigned.value(other) {
             Value::True => Visit::Stays,
             Value::False => Visit::Conflict(id),
             Value::Free => {
-                self.force(first, id);
+                self.force(other, id);
                 Visit::Stays
             }
         }

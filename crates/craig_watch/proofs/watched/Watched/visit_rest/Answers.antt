@@ -9,4 +9,4 @@ open_place-requires-clause-live c = watched-live c.args.self.now c.args.lit c.ar
 
 pub returns-in_ok-move_watch-in-Some-clause-visited : goal.returns-in_ok-move_watch-in-Some-clause-visited
 returns-in_ok-move_watch-in-Some-clause-visited c =
-    reached-moved c.args.self.now c.move_watch.new.self c.args.lit c.args.index c.requires.visiting c.in_ok-move_watch-in-Some.ensures.continues (subst (λ (l : Literal). LosesEntry c.args.self.now c.move_watch.new.self l c.args.index) c.requires.second (c.in_ok-move_watch-in-Some.ensures.entry c.args.lit))
+    reached-moved c.args.self.now c.move_watch.new.self c.args.lit c.args.index c.requires.visiting c.in_ok-move_watch-in-Some.ensures.continues (subst (λ (l : Literal). LosesEntry c.args.self.now c.move_watch.new.self l c.args.index) (c.requires.own.at) (c.in_ok-move_watch-in-Some.ensures.entry c.args.lit))

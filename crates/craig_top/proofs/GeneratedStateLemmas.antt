@@ -127,7 +127,7 @@ after_additions s accepted (c ∷ cs) all read =
 -- ---- the commands before the last
 
 -- what is added in the script
-abbrev additions : ℕ → List Command
+abbrev pub additions : ℕ → List Command
 additions n = in_part 1 (map start_clause (range_with_len 0 7)) ++ (flat_map step_commands (range_with_len 0 n) ++ in_part (n + 1) (end_clauses n))
 
 -- the script, as lists of any commands
@@ -135,7 +135,7 @@ regrouped : (a b d : List Command) (z : Command) → a ++ (b ++ (d ++ z ∷ []))
 regrouped a b d z = simp append_assoc
 
 -- the script is the number of parts, the additions and the solve
-generated_split : (n : ℕ) → generated n ≡ (Parts (n + 1) ∷ additions n) ++ Solve [] ∷ []
+pub generated_split : (n : ℕ) → generated n ≡ (Parts (n + 1) ∷ additions n) ++ Solve [] ∷ []
 generated_split n = ap (λ cs. Parts (n + 1) ∷ cs) (regrouped (in_part 1 (map start_clause (range_with_len 0 7))) (flat_map step_commands (range_with_len 0 n)) (in_part (n + 1) (end_clauses n)) (Solve []))
 
 -- each command of the rows is an addition
@@ -153,7 +153,7 @@ steps-add [] = refl
 steps-add (k ∷ ns) = both_add (step_commands k) (flat_map step_commands ns) (in_part-adds (k + 1) (step_clauses k)) (steps-add ns)
 
 -- and all of them
-additions-add : (n : ℕ) → list_all adds_clause (additions n) ≡ true
+pub additions-add : (n : ℕ) → list_all adds_clause (additions n) ≡ true
 additions-add n =
     both_add (in_part 1 (map start_clause (range_with_len 0 7))) (flat_map step_commands (range_with_len 0 n) ++ in_part (n + 1) (end_clauses n))
     (in_part-adds 1 (map start_clause (range_with_len 0 7)))

@@ -47,3 +47,4 @@ pub mod StrengthLemmas
 pub mod AssumptionLemmas
 pub mod PutBackLemmas
 pub mod LemmaReplyLemmas
+pub mod PutGeneratedLemmas

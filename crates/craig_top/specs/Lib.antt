@@ -39,3 +39,4 @@ pub mod WordsRun
 pub mod WrittenOutputs
 pub mod WrittenSystems
 pub mod LemmaReply
+pub mod PutGenerated

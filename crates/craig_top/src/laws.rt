@@ -15,7 +15,7 @@ mod solver_words;
 
 pub use circuits::{literals_of_a_circuit, strict_circuits};
 pub use cuts::{failed_assumptions, interpolants_at_cuts, nothing_left};
-pub use generated::generated_runs;
+pub use generated::{generated_replies, generated_runs, summaries};
 pub use lines::{lines_of_a_script, words_of_commands};
 pub use models::literals_of_a_model;
 pub use refutations::{

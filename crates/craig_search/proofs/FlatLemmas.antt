@@ -3,7 +3,7 @@ use Rattle.std.proofs.Common.{◌≡◌, ℕ, zero, suc, ◌+◌, ◌-◌, ◌<�
 use Rattle.std.proofs.Math.Seq.{drop-append_seam}
 use Rattle.std.proofs.lemmas.List.{drop-append-le, get_or_default, take-append-le, take_all}
 use Rattle.craig_spec.specs.Literal.{Clause}
-use Rattle.craig_search.specs.Journal.{AreEnds, clauses_at_ends}
+use Rattle.craig_search.specs.StoredJournal.{AreEnds, clauses_at_ends}
 
 -- no end is behind the literals
 ends-within : (start : ℕ) (ends : List ℕ) (ls : Clause) → AreEnds start ends ls → start ≤ length ls

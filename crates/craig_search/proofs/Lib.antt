@@ -17,6 +17,8 @@ pub mod FailureLemmas
 pub mod FailedLemmas
 pub mod FlatLemmas
 pub mod LimitLemmas
+pub mod FingerprintLemmas
+mod StoredJournalLemmas
 pub mod ForgottenLemmas
 pub mod ReasonLemmas
 pub mod ReducingLemmas

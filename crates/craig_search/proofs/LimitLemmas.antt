@@ -1,136 +1,165 @@
 -- The lemmas of a search with a limit.
 use Rattle.std.proofs.Common.{◌≡◌, ◌≢◌, inl, inr, ℕ, zero, suc, ◌+◌, ◌-◌, ◌<◌, Bool, true, false, List, [], ◌∷◌, ◌++◌, length, get_or, Contains, Option, Some, None, refl, sym, ap, subst, ◌∙◌, arith, eqb-true}
 use Rattle.std.specs.Option.{option_map}
+use Rattle.std.specs.Prelude.{IsTrue}
 use Rattle.std.proofs.lemmas.Bool.{cases_lt, eqb-false}
 use Rattle.std.proofs.lemmas.List.{get_or_append_left, get_or-append_right, length_push}
-use Rattle.craig_spec.specs.Literal.{Clause, negation}
+use Rattle.std.proofs.lemmas.List.Elements.{All-push}
+use Rattle.craig_spec.specs.Literal.{Clause}
 use Rattle.craig_spec.specs.Chain.{SameLiterals, Told}
-use Rattle.craig_spec.proofs.ClauseLemmas.{SameLiterals-refl, SameLiterals-sym, SameLiterals-trans, clause_value-same, occurs_in_clause-same}
+use Rattle.craig_spec.specs.Occurs.{Occurs, occurs_in_clause}
+use Rattle.craig_spec.specs.Truth.{Implies, clause_value}
+use Rattle.craig_spec.proofs.ClauseLemmas.{SameLiterals-trans}
+use Rattle.craig_base.specs.declared.flags.Flags.{Flags}
 use Rattle.craig_base.specs.Arena.{ArenaView, ChangesOnly, FlaggedClause, OnlyReorders, clause_at, clauses_of}
 use Rattle.craig_base.specs.Clauses.{IsNormal, IsTautology}
 use Rattle.craig_base.specs.LemmaRule.{ContainsClause}
 use Rattle.craig_base.proofs.FoundLemmas.{literals_of-Contains}
-use Rattle.craig_base.proofs.LookUpLemmas.{added-here, added-kept, flagged, held-below}
-use Rattle.craig_base.proofs.ReorderLemmas.{GivesSame-reordered}
-use Rattle.craig_watch.specs.Held.{HeldView, IsConsistent, held_clause}
-use Rattle.craig_search.specs.Journal.{AreAtLimit, AreBelow, AreLearnt, IsListed}
-use Rattle.craig_search.specs.Searching.{IsJournal, IsSearching}
+use Rattle.craig_base.proofs.LookUpLemmas.{added-here, added-kept}
+use Rattle.craig_base.proofs.ReorderLemmas.{IsReordered-refl, IsReordered-trans}
+use Rattle.craig_watch.specs.Held.{HeldView, held_clause}
+use Rattle.craig_search.specs.Journal.{AreBelow, AreLemmas, IsKept, IsListed, StayKept}
+use Rattle.craig_search.specs.StoredJournal.{MarksRepeat}
+use Rattle.craig_search.specs.Searching.{IsNew, IsSearching}
 use Rattle.craig_search.specs.Verdict.{IsLimited}
 
-AreLearnt-start : (a : ArenaView) → AreLearnt a.given a []
-AreLearnt-start a = record { many = omega arith; each = λ k d within. absurd (omega arith); normal = λ k d within. absurd (omega arith) }
+-- kept clauses stay: where nothing changes
+pub StayKept-refl : (a : ArenaView) → StayKept a a
+StayKept-refl a id c is kept = (c, is, IsReordered-refl c)
 
--- after clauses changed the order of their literals
-AreLearnt-reordered : (first : ℕ) (a b : ArenaView) (lemmas : List Clause) → AreLearnt first a lemmas → OnlyReorders a b → AreLearnt first b lemmas
-AreLearnt-reordered first a b lemmas are only = record {
-  many = are.many ∙ sym only.given;
-  each = λ k d within.
-      let p = are.each k d within in
-      let q = GivesSame-reordered a b only (first + k) p.0 p.1 in
-      (q.0, q.1, SameLiterals-trans (get_or lemmas k d) p.0 q.0 p.2 q.2);
-  normal = are.normal;
+pub StayKept-trans : (a b c : ArenaView) → StayKept a b → StayKept b c → StayKept a c
+StayKept-trans a b c one two id f is kept =
+    let p = one id f is kept in
+    let q = two id p.0 p.1 (ap (λ (g : Flags). g.kept) p.2.flags ∙ kept) in
+    (q.0, q.1, IsReordered-trans f p.0 q.0 p.2 q.2)
+
+-- where clauses change the order of their literals
+pub StayKept-reordered : (a b : ArenaView) → OnlyReorders a b → StayKept a b
+StayKept-reordered a b only id c is kept = only.stays id c is
+
+-- and where one more is held
+pub StayKept-added : (a b : ArenaView) (id : ℕ) (f : FlaggedClause) → clause_at a id ≡ None → ChangesOnly a b id (Some f) → StayKept a b
+StayKept-added a b id f fresh only k c is kept = (c, added-kept a b id f fresh only k c is, IsReordered-refl c)
+
+IsKept-stays : (a b : ArenaView) → StayKept a b → (c : Clause) → IsKept a c → IsKept b c
+IsKept-stays a b stay c (id, d, is, kept, same) =
+    let p = stay id d is kept in
+    (id, p.0, p.1, ap (λ (g : Flags). g.kept) p.2.flags ∙ kept, SameLiterals-trans c d.literals p.0.literals same p.2.literals)
+
+AreLemmas-start : (a : ArenaView) → AreLemmas a a []
+AreLemmas-start a = record {
+  rule = record {
+    implied = λ k d within. absurd (omega (arith, within));
+    known = λ k d within. absurd (omega (arith, within));
+    not_tautology = λ k d within. absurd (omega (arith, within));
+    new = λ k d within. absurd (omega (arith, within));
+    few = λ i j k d before later within. absurd (omega (arith, within));
+  };
+  normal = λ k d within. absurd (omega (arith, within));
+  twice = λ i j d before within. absurd (omega (arith, within));
 }
 
--- after one clause more was learnt
-pub AreLearnt-learnt : (first : ℕ) (a b : ArenaView) (id : ℕ) (f : FlaggedClause) (lemmas : List Clause) → AreLearnt first a lemmas → b.given ≡ a.given + 1 → id ≡ a.given → clause_at a id ≡ None → ChangesOnly a b id (Some f) → IsNormal f.literals → AreLearnt first b (lemmas ++ f.literals ∷ [])
-AreLearnt-learnt first a b id f lemmas are given next fresh only sound =
-    let size : length (lemmas ++ f.literals ∷ []) ≡ length lemmas + 1 = length_push lemmas f.literals in
-    let many : first + length lemmas ≡ a.given = are.many in
-    record {
-      many = omega arith;
-      each = λ k d within. elim (cases_lt k (length lemmas)) [
-        | inl low ↦
-            let at : get_or (lemmas ++ f.literals ∷ []) k d ≡ get_or lemmas k d = get_or_append_left lemmas (f.literals ∷ []) d k low in
-            let p = are.each k d low in
-            let g = flagged (clause_at a (first + k)) p.0 p.1 in
-            let held : held_clause b (first + k) ≡ Some p.0 = ap (option_map (λ (h : FlaggedClause). h.literals)) (added-kept a b id f fresh only (first + k) g.0 g.1) ∙ ap (λ (c : Clause). Some c) g.2 in
-            (p.0, held, subst (λ (c : Clause). SameLiterals c p.0) (sym at) p.2)
-        | inr high ↦
-            let last : k ≡ length lemmas = omega (arith, high, within) in
-            let here : first + k ≡ id = omega arith in
-            let at : get_or (lemmas ++ f.literals ∷ []) k d ≡ f.literals = ap (λ (n : ℕ). get_or (lemmas ++ f.literals ∷ []) n d) last ∙ get_or-append_right lemmas (f.literals ∷ []) (length lemmas) (length lemmas) d refl (omega arith) ∙ ap (λ (n : ℕ). get_or (f.literals ∷ []) n d) (let none : length lemmas - length lemmas ≡ 0 = omega arith in none) in
-            let held : held_clause b (first + k) ≡ Some f.literals = ap (held_clause b) here ∙ ap (option_map (λ (h : FlaggedClause). h.literals)) (added-here a b id f fresh only) in
-            (f.literals, held, subst (λ (c : Clause). SameLiterals c f.literals) (sym at) (SameLiterals-refl f.literals))
-      ];
-      normal = λ k d within. elim (cases_lt k (length lemmas)) [
-        | inl low ↦ subst IsNormal (sym (get_or_append_left lemmas (f.literals ∷ []) d k low)) (are.normal k d low)
-        | inr high ↦
-            let last : k ≡ length lemmas = omega (arith, high, within) in
-            let at : get_or (lemmas ++ f.literals ∷ []) k d ≡ f.literals = ap (λ (n : ℕ). get_or (lemmas ++ f.literals ∷ []) n d) last ∙ get_or-append_right lemmas (f.literals ∷ []) (length lemmas) (length lemmas) d refl (omega arith) ∙ ap (λ (n : ℕ). get_or (f.literals ∷ []) n d) (let none : length lemmas - length lemmas ≡ 0 = omega arith in none) in
-            subst IsNormal (sym at) sound
-      ];
-    }
+AreLemmas-stays : (start a b : ArenaView) (lemmas : List Clause) → StayKept a b → AreLemmas start a lemmas → AreLemmas start b lemmas
+AreLemmas-stays start a b lemmas stay are = record {
+  rule = are.rule;
+  normal = are.normal;
+  twice = λ i j d before within same. IsKept-stays a b stay (get_or lemmas i d) (are.twice i j d before within same);
+}
+
+push-at : (lemmas : List Clause) (c : Clause) (k : ℕ) (d : Clause) → k < length lemmas → get_or (lemmas ++ c ∷ []) k d ≡ get_or lemmas k d
+push-at lemmas c k d low = get_or_append_left lemmas (c ∷ []) d k low
+
+push-last : (lemmas : List Clause) (c : Clause) (k : ℕ) (d : Clause) → k ≡ length lemmas → get_or (lemmas ++ c ∷ []) k d ≡ c
+push-last lemmas c k d is =
+    let none : k - length lemmas ≡ 0 = omega (arith, is) in
+    get_or-append_right lemmas (c ∷ []) (length lemmas) k d refl (omega (arith, is)) ∙ ap (λ (n : ℕ). get_or (c ∷ []) n d) none
+
+-- one clause more, which contains none that was held, and is marked as kept where its literals stand in the list
+module _ (start old new : HeldView) (before told told_new : Option Told) (id : ℕ) (f : FlaggedClause) (lemmas : List Clause) (search : IsSearching start old before told) (after : IsSearching start new before told_new) (fresh : clause_at old.arena id ≡ None) (only : ChangesOnly old.arena new.arena id (Some f)) (sound : IsNormal f.literals) (none : IsNew old.arena f.literals) (marked : MarksRepeat lemmas f.literals f.flags.kept) (are : AreLemmas start.arena old.arena lemmas) where
+  held-now : held_clause new.arena id ≡ Some f.literals
+  held-now = ap (option_map (λ (g : FlaggedClause). g.literals)) (added-here old.arena new.arena id f fresh only)
+
+  not-contained : (c : Clause) → Contains (clauses_of start.arena) c → ContainsClause f.literals c → ⊥
+  not-contained c here contains =
+      let p = literals_of-Contains start.arena c search.lent here in
+      let q = search.kept p.0 c p.1 in
+      none p.0 q.0 q.1 (λ l has. contains l ((q.2 l).1 has))
+
+  not-third : (c : Clause) → IsKept old.arena c → SameLiterals c f.literals → ⊥
+  not-third c (k, d, is, kept, same) also =
+      none k d.literals (ap (option_map (λ (g : FlaggedClause). g.literals)) is) (λ l has. (also l).0 ((same l).1 has))
+
+  stays : StayKept old.arena new.arena
+  stays = StayKept-added old.arena new.arena id f fresh only
+
+  few-more : (i j k : ℕ) (d : Clause) → i < j → j < k → k < length (lemmas ++ f.literals ∷ []) → SameLiterals (get_or (lemmas ++ f.literals ∷ []) i d) (get_or (lemmas ++ f.literals ∷ []) j d) → SameLiterals (get_or (lemmas ++ f.literals ∷ []) j d) (get_or (lemmas ++ f.literals ∷ []) k d) → ⊥
+  few-more i j k d low high within same again =
+      let size : length (lemmas ++ f.literals ∷ []) ≡ length lemmas + 1 = length_push lemmas f.literals in
+      let one : get_or (lemmas ++ f.literals ∷ []) i d ≡ get_or lemmas i d = push-at lemmas f.literals i d (omega (arith, low, high, within, size)) in
+      let other : get_or (lemmas ++ f.literals ∷ []) j d ≡ get_or lemmas j d = push-at lemmas f.literals j d (omega (arith, high, within, size)) in
+      let both : SameLiterals (get_or lemmas i d) (get_or lemmas j d) = subst (λ (c : Clause). SameLiterals c (get_or lemmas j d)) one (subst (SameLiterals (get_or (lemmas ++ f.literals ∷ []) i d)) other same) in
+      let more : SameLiterals (get_or lemmas j d) (get_or (lemmas ++ f.literals ∷ []) k d) = subst (λ (c : Clause). SameLiterals c (get_or (lemmas ++ f.literals ∷ []) k d)) other again in
+      elim (cases_lt k (length lemmas)) [
+        | inl inside ↦ are.rule.few i j k d low high inside both (subst (SameLiterals (get_or lemmas j d)) (push-at lemmas f.literals k d inside) more)
+        | inr last ↦
+            let third : SameLiterals (get_or lemmas j d) f.literals = subst (SameLiterals (get_or lemmas j d)) (push-last lemmas f.literals k d (omega (arith, last, within, size))) more in
+            not-third (get_or lemmas i d) (are.twice i j d low (omega (arith, high, within, size)) both) (SameLiterals-trans (get_or lemmas i d) (get_or lemmas j d) f.literals both third)
+      ]
+
+  twice-more : (i j : ℕ) (d : Clause) → i < j → j < length (lemmas ++ f.literals ∷ []) → SameLiterals (get_or (lemmas ++ f.literals ∷ []) i d) (get_or (lemmas ++ f.literals ∷ []) j d) → IsKept new.arena (get_or (lemmas ++ f.literals ∷ []) i d)
+  twice-more i j d low within same =
+      let size : length (lemmas ++ f.literals ∷ []) ≡ length lemmas + 1 = length_push lemmas f.literals in
+      let first : i < length lemmas = omega (arith, low, within, size) in
+      let one : get_or (lemmas ++ f.literals ∷ []) i d ≡ get_or lemmas i d = push-at lemmas f.literals i d first in
+      let more : SameLiterals (get_or lemmas i d) (get_or (lemmas ++ f.literals ∷ []) j d) = subst (λ (c : Clause). SameLiterals c (get_or (lemmas ++ f.literals ∷ []) j d)) one same in
+      subst (IsKept new.arena) (sym one) (elim (cases_lt j (length lemmas)) [
+        | inl inside ↦ IsKept-stays old.arena new.arena stays (get_or lemmas i d) (are.twice i j d low inside (subst (SameLiterals (get_or lemmas i d)) (push-at lemmas f.literals j d inside) more))
+        | inr last ↦
+            let also : SameLiterals (get_or lemmas i d) f.literals = subst (SameLiterals (get_or lemmas i d)) (push-last lemmas f.literals j d (omega (arith, last, within, size))) more in
+            (id, f, added-here old.arena new.arena id f fresh only, marked are.normal sound i d first also, also)
+      ])
+
+  pub AreLemmas-learnt : AreLemmas start.arena new.arena (lemmas ++ f.literals ∷ [])
+  AreLemmas-learnt = record {
+    rule = record {
+      implied = All-push (λ c. Implies (clauses_of start.arena) (λ s. IsTrue (clause_value s c))) lemmas f.literals are.rule.implied (after.leaves.implied id f.literals held-now);
+      known = All-push (λ c. (x : ℕ) → IsTrue (occurs_in_clause x c) → Occurs x (clauses_of start.arena)) lemmas f.literals are.rule.known (λ x occurs. after.leaves.variables id x f.literals held-now occurs);
+      not_tautology = All-push (λ c. ¬ IsTautology c) lemmas f.literals are.rule.not_tautology sound.not_tautology;
+      new = All-push (λ c. (d : Clause) → Contains (clauses_of start.arena) d → ¬ ContainsClause c d) lemmas f.literals are.rule.new not-contained;
+      few = few-more;
+    };
+    normal = All-push IsNormal lemmas f.literals are.normal sound;
+    twice = twice-more;
+  }
 
 -- fewer than the limit: at the start
 some-other : (n m : ℕ) → n ≡ m → Some n ≡ Some m
 some-other n m is = ap (λ (k : ℕ). Some k) is
 
-pub AreBelow-start : (limit : Option ℕ) (a : ArenaView) → limit ≢ Some 0 → AreBelow limit a.given a []
+pub AreBelow-start : (limit : Option ℕ) (a : ArenaView) → limit ≢ Some 0 → AreBelow limit a a []
 AreBelow-start None a not_zero = tt
 AreBelow-start (Some zero) a not_zero = absurd (not_zero refl)
-AreBelow-start (Some (suc n)) a not_zero = (AreLearnt-start a, omega arith)
+AreBelow-start (Some (suc n)) a not_zero = (AreLemmas-start a, omega arith)
 
--- after propagation
-pub AreBelow-reordered : (limit : Option ℕ) (first : ℕ) (a b : ArenaView) (lemmas : List Clause) → AreBelow limit first a lemmas → OnlyReorders a b → AreBelow limit first b lemmas
-AreBelow-reordered None first a b lemmas are only = tt
-AreBelow-reordered (Some n) first a b lemmas are only = (AreLearnt-reordered first a b lemmas are.0 only, are.1)
+-- as long as kept clauses stay
+pub AreBelow-stays : (limit : Option ℕ) (start a b : ArenaView) (lemmas : List Clause) → StayKept a b → AreBelow limit start a lemmas → AreBelow limit start b lemmas
+AreBelow-stays None start a b lemmas stay are = tt
+AreBelow-stays (Some n) start a b lemmas stay are = (AreLemmas-stays start a b lemmas stay are.0, are.1)
 
 -- after a lemma that doesn't meet the limit
-pub AreBelow-listed : (limit : Option ℕ) (first : ℕ) (a b : ArenaView) (c : Clause) (lemmas more : List Clause) (met : Bool) → AreBelow limit first a lemmas → (AreLearnt first a lemmas → AreLearnt first b (lemmas ++ c ∷ [])) → IsListed limit c lemmas more met → met ≡ false → AreBelow limit first b more
-AreBelow-listed None first a b c lemmas more met are next listed other = tt
-AreBelow-listed (Some n) first a b c lemmas more met are next listed other =
+pub AreBelow-listed : (limit : Option ℕ) (start a b : ArenaView) (c : Clause) (lemmas more : List Clause) (met : Bool) → AreBelow limit start a lemmas → (AreLemmas start a lemmas → AreLemmas start b (lemmas ++ c ∷ [])) → IsListed limit c lemmas more met → met ≡ false → AreBelow limit start b more
+AreBelow-listed None start a b c lemmas more met are next listed other = tt
+AreBelow-listed (Some n) start a b c lemmas more met are next listed other =
     let size : length (lemmas ++ c ∷ []) ≡ length lemmas + 1 = length_push lemmas c in
     let longer : length more ≡ length (lemmas ++ c ∷ []) = ap (λ (cs : List Clause). length cs) listed.0 in
     let differs : length more ≢ n = eqb-false (length more) n (sym listed.1 ∙ other) in
     let few : length lemmas < n = are.1 in
-    (subst (AreLearnt first b) (sym listed.0) (next are.0), omega arith)
+    (subst (AreLemmas start b) (sym listed.0) (next are.0), omega arith)
 
 -- and after one that does
-pub AreAtLimit-listed : (limit : Option ℕ) (first : ℕ) (a b : ArenaView) (c : Clause) (lemmas more : List Clause) (met : Bool) → AreBelow limit first a lemmas → (AreLearnt first a lemmas → AreLearnt first b (lemmas ++ c ∷ [])) → IsListed limit c lemmas more met → met ≡ true → AreAtLimit limit first b more
-AreAtLimit-listed None first a b c lemmas more met are next listed is = absurd (let no : false ≡ true = sym listed.1 ∙ is in cc)
-AreAtLimit-listed (Some n) first a b c lemmas more met are next listed is =
+pub IsLimited-listed : (limit : Option ℕ) (start : HeldView) (a b : ArenaView) (c : Clause) (lemmas more : List Clause) (met : Bool) → AreBelow limit start.arena a lemmas → (AreLemmas start.arena a lemmas → AreLemmas start.arena b (lemmas ++ c ∷ [])) → IsListed limit c lemmas more met → met ≡ true → IsLimited start limit more
+IsLimited-listed None start a b c lemmas more met are next listed is = absurd (let no : false ≡ true = sym listed.1 ∙ is in cc)
+IsLimited-listed (Some n) start a b c lemmas more met are next listed is =
     let same : length more ≡ n = eqb-true (length more) n (sym listed.1 ∙ is) in
-    (subst (AreLearnt first b) (sym listed.0) (next are.0), some-other n (length more) (sym same))
-
--- where the limit is met, nothing was let go
-pub limited-journal : (limit : Option ℕ) (lemmas : List Clause) (c : Clause) (more : List Clause) (met : Bool) (since start : ℕ) (a : ArenaView) → IsListed limit c lemmas more met → met ≡ true → ((n : ℕ) → limit ≡ Some n → since ≡ start) → IsJournal since a → IsJournal start a
-limited-journal None lemmas c more met since start a listed is whole journal = absurd (let no : false ≡ true = sym listed.1 ∙ is in cc)
-limited-journal (Some n) lemmas c more met since start a listed is whole journal = subst (λ (k : ℕ). IsJournal k a) (whole n refl) journal
-
--- the lemmas that are listed meet the rule over the clauses of the start
-module _ (start now : HeldView) (before by_now : Option Told) (lemmas : List Clause) (ok : IsConsistent start) (fine : IsConsistent now) (search : IsSearching start now before by_now) (journal : IsJournal start.arena.given now.arena) (are : AreLearnt start.arena.given now.arena lemmas) where
-  lemma-new : (k : ℕ) (d : Clause) → k < length lemmas → (c : Clause) → Contains (clauses_of start.arena) c → ContainsClause (get_or lemmas k d) c → ⊥
-  lemma-new k d within c here contains =
-      let p = are.each k d within in
-      let id = literals_of-Contains start.arena c ok.arena here in
-      let low : id.0 < start.arena.given = held-below start.arena id.0 c ok.arena id.1 in
-      let q = search.kept id.0 c id.1 in
-      journal.new (start.arena.given + k) id.0 p.0 q.0 (omega arith) (omega arith) p.1 q.1 (λ l has. (p.2 l).0 (contains l ((q.2 l).1 has)))
-
-  lemma-different : (i j : ℕ) (d : Clause) → i < j → j < length lemmas → SameLiterals (get_or lemmas i d) (get_or lemmas j d) → ⊥
-  lemma-different i j d first within same =
-      let p = are.each i d (omega (arith, first, within)) in
-      let q = are.each j d within in
-      journal.new (start.arena.given + j) (start.arena.given + i) q.0 p.0 (omega arith) (omega (arith, first)) q.1 p.1 (λ l has. (q.2 l).0 ((same l).0 ((p.2 l).1 has)))
-
-  lemma-sound : (k : ℕ) (d : Clause) → k < length lemmas → IsTautology (get_or lemmas k d) → ⊥
-  lemma-sound k d within (l, here, there) =
-      let p = are.each k d within in
-      (fine.clauses (start.arena.given + k) p.0 p.1).0.not_tautology (l, (p.2 l).0 here, (p.2 (negation l)).0 there)
-
-  pub IsLimited-learnt : (limit : Option ℕ) → limit ≡ Some (length lemmas) → IsLimited start limit lemmas
-  IsLimited-learnt limit many = record {
-    many = many;
-    normal = are.normal;
-    rule = record {
-      implied = λ k d within s model.
-          let p = are.each k d within in
-          clause_value-same s p.0 (get_or lemmas k d) (SameLiterals-sym (get_or lemmas k d) p.0 p.2) (search.leaves.implied (start.arena.given + k) p.0 p.1 s model);
-      known = λ k d within x occurs.
-          let p = are.each k d within in
-          search.leaves.variables (start.arena.given + k) x p.0 p.1 (occurs_in_clause-same x (get_or lemmas k d) p.0 p.2 occurs);
-      not_tautology = λ k d within. lemma-sound k d within;
-      new = λ k d within c here contains. lemma-new k d within c here contains;
-      few = λ i j k d before later within same again. lemma-different i j d before (omega (arith, later, within)) same;
-    };
-  }
+    let all = subst (AreLemmas start.arena b) (sym listed.0) (next are.0) in
+    record { many = some-other n (length more) (sym same); rule = all.rule; normal = all.normal }

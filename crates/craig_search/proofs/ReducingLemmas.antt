@@ -1,25 +1,27 @@
 -- Clauses that a search learnt are let go.
 use Rattle.std.proofs.Common.{◌≡◌, ◌≢◌, ℕ, ◌<◌, ◌≤◌, Bool, true, false, cond, eqb, Option, Some, None, Contains, inl, inr, refl, sym, ap, subst, ◌∙◌, arith, eq-eqb, ne_eqb}
-use Rattle.std.specs.Option.{option_map}
+use Rattle.std.specs.Option.{IfSome, option_map}
 use Rattle.craig_spec.specs.Literal.{Clause}
 use Rattle.craig_spec.specs.Chain.{IsUnforgotten, Origin, Told, ToldStep, antecedents, without_id}
 use Rattle.craig_spec.specs.Needed.{IsOriginal}
 use Rattle.craig_spec.proofs.ClauseLemmas.{SameLiterals-refl}
 use Rattle.craig_base.specs.Arena.{ArenaView, ChangesOnly, FlaggedClause, clause_at, literals_of, without}
 use Rattle.craig_base.proofs.LookUpLemmas.{flagged, held-below, live-below}
+use Rattle.craig_base.proofs.ReorderLemmas.{IsReordered-refl}
 use Rattle.craig_proof.specs.Covers.{IsCovering}
 use Rattle.craig_proof.proofs.AppendsLemmas.{before_forgotten}
 use Rattle.craig_proof.proofs.CoversLemmas.{IsCovering-fewer, IsCovering-forgotten}
 use Rattle.craig_watch.specs.Held.{HeldView, held_clause}
 use Rattle.craig_search.specs.Leaves.{Leaves}
-use Rattle.craig_search.specs.Reducing.{LetsGo}
+use Rattle.craig_search.specs.Reducing.{IsUnkept, LetsGo}
+use Rattle.craig_search.proofs.LimitLemmas.{StayKept-refl, StayKept-trans}
 use Rattle.craig_search.specs.Searching.{TellsLearnt}
 use Rattle.craig_search.specs.Tells.{IsOfSearch, Tells, WasTold}
 use Rattle.craig_search.proofs.ForgottenLemmas.{IsUnforgotten-other, forgotten-step, forgotten-still, unforgotten-below}
 
 -- nothing is let go
 pub LetsGo-none : (first : ℕ) (h : HeldView) (told : Option Told) → LetsGo first h h told told
-LetsGo-none first h told = record { goes_on = λ start before low search. search; others = refl; given = refl }
+LetsGo-none first h told = record { goes_on = λ start before low search. search; others = refl; given = refl; kept = StayKept-refl h.arena }
 
 -- one after the other
 pub LetsGo-both : (first : ℕ) (a b c : HeldView) (told_a told_b told_c : Option Told) → LetsGo first a b told_a told_b → LetsGo first b c told_b told_c → LetsGo first a c told_a told_c
@@ -27,6 +29,7 @@ LetsGo-both first a b c told_a told_b told_c one two = record {
   goes_on = λ start before low search. two.goes_on start before low (one.goes_on start before low search);
   others = two.others ∙ ap (λ (h : HeldView). record h { arena = c.arena }) one.others;
   given = two.given ∙ one.given;
+  kept = StayKept-trans a.arena b.arena c.arena one.kept two.kept;
 }
 
 -- of higher ids alone
@@ -35,6 +38,7 @@ LetsGo-later first more old new now after le step = record {
   goes_on = λ start before low. step.goes_on start before (omega arith);
   others = step.others;
   given = step.given;
+  kept = step.kept;
 }
 
 gone-cases : (b : Bool) (k id : ℕ) (c : FlaggedClause) (o : Option FlaggedClause) → eqb k id ≡ b → cond b None o ≡ Some c → (k ≢ id) × (o ≡ Some c)
@@ -42,15 +46,15 @@ gone-cases true k id c o e h = absurd (let no : None ≡ Some c = h in cc)
 gone-cases false k id c o e h = (λ same. (let no : false ≡ true = sym e ∙ ap (λ (n : ℕ). eqb n id) same ∙ eq-eqb id id refl in cc), h)
 
 module _ (a b : ArenaView) (id : ℕ) (only : ChangesOnly a b id None) where
-  gone-before : (k : ℕ) (c : FlaggedClause) → clause_at b k ≡ Some c → clause_at a k ≡ Some c
+  pub gone-before : (k : ℕ) (c : FlaggedClause) → clause_at b k ≡ Some c → clause_at a k ≡ Some c
   gone-before k c is = (gone-cases (eqb k id) k id c (clause_at a k) refl (sym (only k) ∙ is)).1
 
-  gone-held : (k : ℕ) (c : Clause) → literals_of b k ≡ Some c → literals_of a k ≡ Some c
+  pub gone-held : (k : ℕ) (c : Clause) → literals_of b k ≡ Some c → literals_of a k ≡ Some c
   gone-held k c is =
       let f = flagged (clause_at b k) c is in
       ap (option_map (λ (g : FlaggedClause). g.literals)) (gone-before k f.0 f.1) ∙ ap (λ (d : Clause). Some d) f.2
 
-  gone-kept : (k : ℕ) → k ≢ id → clause_at b k ≡ clause_at a k
+  pub gone-kept : (k : ℕ) → k ≢ id → clause_at b k ≡ clause_at a k
   gone-kept k other = only k ∙ ap (λ (t : Bool). cond t None (clause_at a k)) (ne_eqb k id other)
 
   gone-here : literals_of b id ≡ None
@@ -104,9 +108,15 @@ TellsLearnt-forgotten start before now after first id covered low high learnt fo
     let w = before_forgotten now after id u forgotten also in
     subst (Tells (held_clause start.arena) start.arena.given (λ x. ⊥) t) (sym w.2) (Tells-forgotten (held_clause start.arena) start.arena.given (λ x. ⊥) t w.0 id (learnt t w.0 is w.1) (λ x kept same. (let below : x < start.arena.given = unforgotten-below t (held_clause start.arena) start.arena.given x (covered t is) kept in omega arith)))
 
--- one clause is let go, and its id is forgotten
-pub LetsGo-one : (first id : ℕ) (old new : HeldView) (now after : Option Told) → first ≤ id → new ≡ record old { arena = without old.arena id } → ChangesOnly old.arena new.arena id None → after ≡ option_map (without_id id) now → LetsGo first old new now after
-LetsGo-one first id old new now after high is only forgotten = record {
+kept-unkept : (o : Option FlaggedClause) (c : FlaggedClause) → IfSome o (λ d. d.flags.kept ≡ false) → o ≡ Some c → c.flags.kept ≡ true → ⊥
+kept-unkept o c unkept is kept =
+    let no : c.flags.kept ≡ false = subst (λ (x : Option FlaggedClause). IfSome x (λ d. d.flags.kept ≡ false)) is unkept in
+    let odd : true ≡ false = sym kept ∙ no in
+    cc
+
+-- one clause is let go that isn't kept, and its id is forgotten
+pub LetsGo-one : (first id : ℕ) (old new : HeldView) (now after : Option Told) → first ≤ id → IsUnkept old.arena id → new ≡ record old { arena = without old.arena id } → ChangesOnly old.arena new.arena id None → after ≡ option_map (without_id id) now → LetsGo first old new now after
+LetsGo-one first id old new now after high unkept is only forgotten = record {
   goes_on = λ start before low search. record {
     lent = search.lent;
     covered = search.covered;
@@ -119,6 +129,7 @@ LetsGo-one first id old new now after high is only forgotten = record {
   };
   others = is ∙ ap (λ (a : ArenaView). record old { arena = a }) (sym (ap (λ (h : HeldView). h.arena) is));
   given = ap (λ (h : HeldView). h.arena.given) is;
+  kept = λ k c here kept. (c, gone-kept old.arena new.arena id only k (λ same. kept-unkept (clause_at old.arena id) c unkept (ap (clause_at old.arena) (sym same) ∙ here) kept) ∙ here, IsReordered-refl c);
 }
 
 -- the tracer covers what is left

@@ -7,5 +7,7 @@ pub mod Searching
 pub mod Levels
 pub mod LawsOfTelling
 pub mod Failing
+pub mod Fingerprint
+pub mod StoredJournal
 pub mod Journal
 pub mod Reducing

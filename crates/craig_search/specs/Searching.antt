@@ -1,5 +1,5 @@
 -- What a search keeps from turn to turn.
-use Rattle.std.specs.Prelude.{◌≡◌, ℕ, ◌<◌, ◌≤◌, true, false, List, [], Option, Some, None, length}
+use Rattle.std.specs.Prelude.{◌≡◌, ℕ, ◌<◌, ◌≤◌, Bool, true, false, List, [], Option, Some, None, length}
 use Rattle.craig_spec.specs.Literal.{Clause}
 use Rattle.craig_spec.specs.Chain.{ChainOk, GivesSame, Told}
 use Rattle.craig_base.specs.Arena.{ArenaView, IsArena, with_clause, with_id}
@@ -33,9 +33,9 @@ pub record IsJournal (first : ℕ) (a : ArenaView) : Type 0 where
 abbrev pub KeepsJournals : HeldView → HeldView → Type 0
 KeepsJournals old new = (first : ℕ) → IsJournal first old.arena → IsJournal first new.arena
 
--- the arena with the learnt clause under the next id
-abbrev pub with_learnt : ArenaView → Learnt → ArenaView
-with_learnt a l = with_clause a (record { literals = l.lits; flags = record { learnt = true; kept = false; glue = l.glue } })
+-- the arena with the learnt clause under the next id, which is marked as kept or not
+abbrev pub with_learnt : ArenaView → Learnt → Bool → ArenaView
+with_learnt a l kept = with_clause a (record { literals = l.lits; flags = record { learnt = true; kept = kept; glue = l.glue } })
 
 -- where both are told, only derived clauses were told since, on the clauses of the start and on one another
 abbrev pub TellsLearnt : HeldView → Option Told → Option Told → Type 0
@@ -95,7 +95,7 @@ EndsWith assumptions start end o before after (Refuted root) =
     (last : HeldView) × (by_then : Option Told) × IsSearching start last before by_then × TellsEmptyClause last end root.0 by_then after × (last.level ≡ 0) × IsReady last o
 EndsWith assumptions start end o before after (Failed l) =
     IsSearching start end before after × IsReady end o × IsFalse end.trail l × IsAssumed assumptions l × AreAllAssumed assumptions end.trail
-EndsWith assumptions start end o before after Limited = IsSearching start end before after × IsReady end o × IsJournal start.arena.given end.arena
+EndsWith assumptions start end o before after Limited = IsSearching start end before after × IsReady end o
 
 -- what the turns of a search leave
 pub record IsOutcome (assumptions : Assumptions) (start end : HeldView) (o : OrderView) (before after : Option Told) (outcome : Outcome) : Type 0 where

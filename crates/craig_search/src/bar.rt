@@ -4,6 +4,7 @@
 //! in Modern SAT Solvers", IJCAI 2009. Of one glue the older clauses are worse. Contracts promise nothing of it.
 ghost use Rattle.std.specs.Prelude.{◌≡◌, ◌≤◌, true, IfSome};
 ghost use Rattle.craig_base.specs.Arena.{IsLive};
+ghost use Rattle.craig_search.specs.Reducing.{IsLearnt, IsUnkept};
 
 use craig_base::ClauseId;
 use craig_watch::Held;
@@ -16,7 +17,7 @@ const MOST_GLUE: usize = 63;
 
 /// The glue of which, and how many clauses of it, count as bad.
 #[derive(Drop)]
-pub(crate) struct Bar {
+pub struct Bar {
     // a clause of more levels is bad
     glue: usize,
     // how many clauses of exactly so many levels are bad, the older ones
@@ -25,7 +26,7 @@ pub(crate) struct Bar {
 
 impl Bar {
     /// The bar under which about half of the learnt clauses stand that are held from an id on.
-    pub(crate) fn new(held: &Held, first: u64) -> Bar {
+    pub fn new(held: &Held, first: u64) -> Bar {
         let mut counts = [0usize; 64];
         let end = held.arena().given();
         for number in first..end {
@@ -44,7 +45,9 @@ impl Bar {
 
     /// Whether a clause is bad. It is asked of each clause once, from older ones to newer ones.
     pub(crate) fn is_below(&mut self, held: &Held, id: ClauseId) -> bool
-        ensures { result ≡ true → IsLive held.now.arena id.0 }
+        ensures live { result ≡ true → IsLive held.now.arena id.0 }
+        ensures unkept { result ≡ true → IsUnkept held.now.arena id.0 }
+        ensures learnt { result ≡ true → IsLearnt held.now.arena id.0 }
     {
         let Some(glue) = glue_of(held, id) else {
             return false;
@@ -62,6 +65,8 @@ impl Bar {
 fn glue_of(held: &Held, id: ClauseId) -> Option<usize>
     ensures few { IfSome result (λ glue. glue ≤ 63) }
     ensures live { IfSome result (λ glue. IsLive held.now.arena id.0) }
+    ensures unkept { IfSome result (λ glue. IsUnkept held.now.arena id.0) }
+    ensures learnt { IfSome result (λ glue. IsLearnt held.now.arena id.0) }
 {
     if !held.arena().live(id) {
         return None;

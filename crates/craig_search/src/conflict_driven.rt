@@ -35,14 +35,14 @@ use std::alloc::{AllocError, Global};
 /// An `AllocError` comes only for want of memory. After it nothing is promised of what was lent but that its calls are
 /// safe, and that the same variables are known. Clauses whose memory was refused before are not searched.
 ///
-/// Without a limit a search lets some of the clauses go that it learnt itself, and the tracer forgets their ids.
+/// A search lets some of the clauses go that it learnt itself, and the tracer forgets their ids.
 ///
 /// Assumptions are decided in their order, each at a level of its own, and none that is true already. One that is false
 /// ends the search.
 ///
 /// A limit, which is not 0, ends the search as soon as so many clauses were learnt. `Limit` has these clauses, the lemmas:
 /// each follows from the clauses that were held when the search began, without the assumptions, has variables of theirs
-/// alone, and contains none of them. They stay held. Without a limit there is no such verdict.
+/// alone, and contains none of them. No three of them have the same literals. Without a limit there is no such verdict.
 pub fn search<T: Tracer>(
     alloc: Global,
     held: &mut Held,
@@ -111,7 +111,7 @@ fn run<T: Tracer>(
     requires known { All (λ a. a.1.var < held.old.vars) assumptions.now }
     requires limit { limit ≢ Some 0 }
     requires none_yet { journal.old ≡ [] }
-    ensures listed { IfOk result (ListsLemmas limit held.old.arena.given held.new.arena journal.new) }
+    ensures listed { IfOk result (ListsLemmas limit held.old journal.new) }
     ensures outcome { IfOk result (IsOutcome assumptions.now held.old held.new order.new (T.told tracer.old) (T.told tracer.new)) }
     ensures vars { held.new.vars ≡ held.old.vars }
     ensures order { order.new.dead ≡ order.old.dead }
@@ -138,13 +138,13 @@ fn run<T: Tracer>(
                 if held.level() == 0 {
                     return Ok(Outcome::Refuted(refuted(held, tracer, analysis, conflict)?));
                 }
-                let learnt = learn(held, order, tracer, analysis, &mut pace, conflict)?;
+                let learnt = learn(held, order, tracer, analysis, &mut pace, journal, conflict)?;
                 let met = list_lemma(journal, limit, learnt.lits.as_slice())?;
                 if met {
                     return Ok(Outcome::Limited);
                 }
                 restart_if_due(held, order, &mut pace, assumptions);
-                reduce_if_due(held, tracer, &mut pace, &mut reductions, limit);
+                reduce_if_due(held, tracer, &mut pace, &mut reductions);
                 place = 0;
             }
         }

@@ -1,8 +1,13 @@
 //! The list of the clauses that a search has learnt.
-ghost use Rattle.std.specs.Prelude.{◌≡◌, ◌<◌, ◌≤◌, [], ◌∷◌, ◌++◌, OnErr, OnOk, length, nat_eq, slice_index_or};
+ghost use Rattle.std.specs.Prelude.{◌≡◌, ℕ, ◌<◌, ◌≤◌, true, [], ◌∷◌, ◌++◌, OnErr, OnOk, length, nat_eq, slice_index_or};
+ghost use Rattle.std.specs.BTreeSet.{contains};
+ghost use Rattle.std.specs.Ordering.{nat_cmp};
+ghost use Rattle.craig_search.specs.StoredJournal.{MarksRepeat};
 
+use crate::fingerprint::fingerprint;
 use craig_base::Lit;
 use std::alloc::{AllocError, Global};
+use std::collections::BTreeSet;
 use std::marker::Model;
 
 /// The clauses that a search has learnt under a limit, in the order in which they were learnt: its lemmas.
@@ -14,18 +19,20 @@ pub struct Journal {
     literals: Vec<Lit>,
     // where the literals of each clause end, rising
     ends: Vec<usize>,
+    // those of all clauses
+    fingerprints: BTreeSet<u64>,
 }
 
 impl Model for Journal {
     ghost use Rattle.std.specs.Prelude.{List};
     ghost use Rattle.craig_spec.specs.Literal.{Clause};
-    ghost use Rattle.craig_search.specs.Journal.{AreEnds, clauses_at_ends};
+    ghost use Rattle.craig_search.specs.StoredJournal.{AreStored, clauses_at_ends};
 
     ghost Value = { List Clause };
 
     ghost view = { λ j. clauses_at_ends 0 j.ends.items j.literals.items };
 
-    ghost invariant = { λ j. AreEnds 0 j.ends.items j.literals.items };
+    ghost invariant = { λ j. AreStored j.literals.items j.ends.items j.fingerprints };
 }
 
 impl Journal {
@@ -36,6 +43,7 @@ impl Journal {
         Journal {
             literals: Vec::new(alloc),
             ends: Vec::new(alloc),
+            fingerprints: BTreeSet::new(alloc),
         }
     }
 
@@ -44,11 +52,19 @@ impl Journal {
         ensures pushed { OnOk result (self.new ≡ self.old ++ lits.now ∷ []) }
         ensures unchanged { OnErr result (self.new ≡ self.old) }
     {
-        // room for the end first, so that no literal stays behind where there is none
+        // room for the end first, so that no literal stays behind where there is none; a fingerprint may
         self.ends.reserve(1)?;
+        note(&mut self.fingerprints, fingerprint(lits))?;
         self.literals.extend_from_slice(lits)?;
         self.ends.push_reserved(self.literals.len());
         Ok(())
+    }
+
+    /// Whether a clause may have these literals in any order. Where one has, it is so; mostly it isn't where none has.
+    pub(crate) fn may_have(&self, lits: &[Lit]) -> bool
+        ensures { MarksRepeat self.now lits.now result }
+    {
+        self.fingerprints.contains(&fingerprint(lits))
     }
 
     /// How many clauses there are.
@@ -74,6 +90,15 @@ impl Journal {
         let end = self.ends[place];
         &self.literals[start..end]
     }
+}
+
+/// Puts a number into the set, from which none is taken out.
+fn note(numbers: &mut BTreeSet<u64>, number: u64) -> Result<(), AllocError>
+    ensures noted { OnOk result (contains nat_cmp numbers.new number ≡ true) }
+    ensures stay { (n : ℕ) → contains nat_cmp numbers.old n ≡ true → contains nat_cmp numbers.new n ≡ true }
+{
+    numbers.insert(number)?;
+    Ok(())
 }
 
 /// Where the literals of the clause at the place begin, by the ends of the clauses.

@@ -11,6 +11,7 @@ mod bar;
 mod conflict_driven;
 mod deciding;
 mod failing;
+mod fingerprint;
 mod going_back;
 mod journal;
 pub mod laws;
@@ -24,7 +25,9 @@ mod refuting;
 mod restarting;
 mod verdict;
 
+pub use bar::Bar;
 pub use conflict_driven::search;
 pub use journal::Journal;
 pub use places::Places;
+pub use reducing::may_go;
 pub use verdict::Verdict;

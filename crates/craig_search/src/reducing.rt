@@ -5,7 +5,7 @@ ghost use Rattle.std.specs.Prelude.{◌≡◌, ◌≢◌, ◌<◌, ◌≤◌, tr
 ghost use Rattle.craig_base.specs.Arena.{IsLive};
 ghost use Rattle.craig_proof.specs.Covers.{IsCovering};
 ghost use Rattle.craig_watch.specs.Held.{IsConsistent, held_clause};
-ghost use Rattle.craig_search.specs.Reducing.{IsNotForcedBy, IsReduced, LetsGo};
+ghost use Rattle.craig_search.specs.Reducing.{IsLearnt, IsNotForcedBy, IsReduced, IsUnkept, LetsGo};
 
 use crate::bar::Bar;
 use crate::reductions::Reductions;
@@ -14,28 +14,23 @@ use craig_order::Pace;
 use craig_proof::Tracer;
 use craig_watch::{Held, Value};
 
-/// Lets the worse half of the learnt clauses go where that is due. A search with a limit lets none go, since its lemmas
-/// stay held.
+/// Lets the worse half of the learnt clauses go where that is due.
 pub(crate) fn reduce_if_due<T: Tracer>(
     held: &mut Held,
     tracer: &mut T,
     pace: &mut Pace,
     reductions: &mut Reductions,
-    limit: Option<u64>,
 )
     requires consistent { IsConsistent held.old }
     requires covers { IsCovering (T.told tracer.old) (held_clause held.old.arena) held.old.arena.given }
     ensures lets_go { LetsGo reductions.old.first held.old held.new (T.told tracer.old) (T.told tracer.new) }
-    ensures reduced { IsReduced limit reductions.old reductions.new held.old held.new }
+    ensures reduced { IsReduced reductions.old reductions.new held.old held.new }
     ensures consistent { IsConsistent held.new }
     ensures covers { IsCovering (T.told tracer.new) (held_clause held.new.arena) held.new.arena.given }
     ensures tells { is_some (T.told tracer.new) ≡ is_some (T.told tracer.old) }
     ensures kept { T.kept tracer.new ≡ T.kept tracer.old }
 {
     let due = pace.reduce_due();
-    if limit.is_some() {
-        return;
-    }
     if reductions.left == 0 {
         return;
     }
@@ -83,10 +78,13 @@ fn let_go_if_bad<T: Tracer>(held: &mut Held, tracer: &mut T, id: ClauseId, bar: 
     tracer.forget(id);
 }
 
-/// Whether a clause is held, bad and no reason.
-fn may_go(held: &Held, id: ClauseId, bar: &mut Bar) -> bool
+/// Whether a clause is held, learnt, bad and no reason, so that it may be let go. It is asked of each clause once, from
+/// older ones to newer ones.
+pub fn may_go(held: &Held, id: ClauseId, bar: &mut Bar) -> bool
     requires { IsConsistent held.now }
     ensures live { result ≡ true → IsLive held.now.arena id.0 }
+    ensures unkept { result ≡ true → IsUnkept held.now.arena id.0 }
+    ensures learnt { result ≡ true → IsLearnt held.now.arena id.0 }
     ensures no_reason { result ≡ true → All (λ e. e.reason ≢ Some id) held.now.trail }
 {
     if !bar.is_below(held, id) {

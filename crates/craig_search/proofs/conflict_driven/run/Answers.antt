@@ -4,13 +4,13 @@ use Rattle.craig_watch.specs.Held.{HeldView, held_clause}
 use Rattle.craig_search.specs.Searching.{IsJournal, IsSearching}
 use Rattle.craig_search.proofs.CoversLemmas.{covers-reordered}
 use Rattle.craig_search.proofs.JournalLemmas.{IsJournal-reordered, IsJournal-start}
-use Rattle.craig_search.proofs.TurnLemmas.{turn-first, turn-given, turn-journal, turn-later, turn-listed, turn-smaller, turn-whole}
+use Rattle.craig_search.proofs.TurnLemmas.{turn-first, turn-given, turn-journal, turn-later, turn-smaller}
 use Rattle.craig_spec.specs.Literal.{Clause}
 use Rattle.craig_base.specs.Arena.{ArenaView}
 use Rattle.craig_search.specs.Assuming.{AreDecided}
 use Rattle.craig_search.specs.Leaves.{IsReady}
 use Rattle.craig_search.specs.Journal.{AreBelow, IsListed}
-use Rattle.craig_search.proofs.LimitLemmas.{AreAtLimit-listed, AreBelow-listed, AreBelow-reordered, AreBelow-start, limited-journal}
+use Rattle.craig_search.proofs.LimitLemmas.{AreBelow-listed, AreBelow-start, AreBelow-stays, IsLimited-listed, StayKept-reordered}
 use Rattle.craig_search.proofs.ReadyLemmas.{IsReady-arena, IsReady-longer}
 use Rattle.craig_search.proofs.AssumingLemmas.{before-longer, decided-back, decided-longer, decided-root}
 use Rattle.craig_search.proofs.SearchingLemmas.{IsSearching-lengthened, IsSearching-moved, IsSearching-start}
@@ -27,12 +27,11 @@ loop-held-init g c = record {
   within = omega arith;
   decided = decided-root c.args.assumptions.now c.args.held.now c.requires.under_way.consistent c.requires.level;
   before = λ p a low at. absurd (omega (arith, low));
-  listed = subst (AreBelow c.args.limit c.args.held.now.arena.given c.args.held.now.arena) (sym c.requires.none_yet) (AreBelow-start c.args.limit c.args.held.now.arena c.requires.limit);
+  listed = subst (AreBelow c.args.limit c.args.held.now.arena c.args.held.now.arena) (sym c.requires.none_yet) (AreBelow-start c.args.limit c.args.held.now.arena c.requires.limit);
   journal = subst (λ (n : ℕ). IsJournal n c.args.held.now.arena) (sym (c.new-reductions.ensures.since ∙ c.given.ensures.value ∙ ap (λ (a : ArenaView). a.given) c.arena.ensures.value)) (IsJournal-start c.args.held.now.arena c.requires.under_way.consistent.arena);
   first = c.new-reductions.ensures.first ∙ c.given.ensures.value ∙ ap (λ (a : ArenaView). a.given) c.arena.ensures.value;
   later = (let is : c.new-reductions.result.since ≡ c.args.held.now.arena.given = c.new-reductions.ensures.since ∙ c.given.ensures.value ∙ ap (λ (a : ArenaView). a.given) c.arena.ensures.value in omega (arith, is));
   given = (let is : c.new-reductions.result.since ≡ c.args.held.now.arena.given = c.new-reductions.ensures.since ∙ c.given.ensures.value ∙ ap (λ (a : ArenaView). a.given) c.arena.ensures.value in omega (arith, is));
-  whole = λ n is. c.new-reductions.ensures.since ∙ c.given.ensures.value ∙ ap (λ (a : ArenaView). a.given) c.arena.ensures.value;
 }
 
 pub first_open-place-requires-clause-before : goal.first_open-place-requires-clause-before
@@ -70,12 +69,11 @@ loop-held-preserved-in-Decided g c =
       within = c.first_open-place.ensures.within;
       decided = turn.3;
       before = before-longer p.trail _ new.trail c.args.assumptions.now c.first_open-place.result (ap (λ (h : HeldView). h.trail) is) c.first_open-place.ensures.before;
-      listed = subst (λ (h : HeldView). AreBelow c.args.limit c.args.held.now.arena.given h.arena c.loop-held.journal) (sym is) (AreBelow-reordered c.args.limit c.args.held.now.arena.given old.arena p.arena c.loop-held.journal c.loop-held.invariant.listed lengthened.clauses);
+      listed = subst (λ (h : HeldView). AreBelow c.args.limit c.args.held.now.arena h.arena c.loop-held.journal) (sym is) (AreBelow-stays c.args.limit c.args.held.now.arena old.arena p.arena c.loop-held.journal (StayKept-reordered old.arena p.arena lengthened.clauses) c.loop-held.invariant.listed);
       journal = subst (λ (h : HeldView). IsJournal c.loop-held.reductions.since h.arena) (sym is) (IsJournal-reordered c.loop-held.reductions.since old.arena p.arena c.loop-held.invariant.journal lengthened.clauses);
       first = c.loop-held.invariant.first;
       later = c.loop-held.invariant.later;
       given = (let same : new.arena.given ≡ old.arena.given = ap (λ (h : HeldView). h.arena.given) is ∙ lengthened.clauses.given in omega (arith, same, c.loop-held.invariant.given));
-      whole = c.loop-held.invariant.whole;
     }
 
 pub returns-in-Model-clause-outcome : goal.returns-in-Model-clause-outcome
@@ -157,7 +155,7 @@ loop-held-smaller-else-met g c =
     let vars : mid.vars ≡ old.vars = ap (λ (h : HeldView). h.vars) restarted ∙ search.leaves.vars ∙ sym c.loop-held.invariant.searching.leaves.vars in
     let given : mid.arena.given ≡ old.arena.given + 1 = ap (λ (h : HeldView). h.arena.given) restarted ∙ c.in_ok-learnt-in-Some.ensures.given ∙ ap (λ (n : ℕ). n + 1) lengthened.clauses.given in
     let journal = subst (λ (h : HeldView). IsJournal c.loop-held.reductions.since h.arena) (sym restarted) (c.in_ok-learnt-in-Some.ensures.journals c.loop-held.reductions.since (IsJournal-reordered c.loop-held.reductions.since old.arena c.propagate.new.self.arena c.loop-held.invariant.journal lengthened.clauses)) in
-    turn-smaller c.args.limit start.arena.given old mid c.reduce_if_due.new.held c.loop-held.reductions c.reduce_if_due.new.reductions _ _ c.loop-held.invariant.given journal vars given c.reduce_if_due.ensures.lets_go c.reduce_if_due.ensures.reduced c.no_longer_list.ensures.once c.restart_if_due.ensures.consistent
+    turn-smaller start.arena.given old mid c.reduce_if_due.new.held c.loop-held.reductions c.reduce_if_due.new.reductions _ _ c.loop-held.invariant.given journal vars given c.reduce_if_due.ensures.lets_go c.reduce_if_due.ensures.reduced c.no_longer_list.ensures.once c.restart_if_due.ensures.consistent
 
 pub loop-held-preserved-else-met : goal.loop-held-preserved-else-met
 loop-held-preserved-else-met g c =
@@ -171,7 +169,8 @@ loop-held-preserved-else-met g c =
     let gone = c.reduce_if_due.ensures.lets_go in
     let reduced = c.reduce_if_due.ensures.reduced in
     let told = g.T.Tracer.told c.learn.new.tracer in
-    let search = learnt.goes_on start (g.T.Tracer.told c.args.tracer.now) (IsSearching-lengthened start old c.propagate.new.self _ _ c.loop-held.invariant.searching lengthened) in
+    let lengthened_search = IsSearching-lengthened start old c.propagate.new.self _ _ c.loop-held.invariant.searching lengthened in
+    let search = learnt.goes_on start (g.T.Tracer.told c.args.tracer.now) lengthened_search in
     let moved = subst (λ (h : HeldView). IsSearching start h (g.T.Tracer.told c.args.tracer.now) told) (sym restarted.1) (IsSearching-moved start c.learn.new.held _ _ _ _ search) in
     let vars : mid.vars ≡ old.vars = ap (λ (h : HeldView). h.vars) restarted.1 ∙ search.leaves.vars ∙ sym c.loop-held.invariant.searching.leaves.vars in
     let given : mid.arena.given ≡ old.arena.given + 1 = ap (λ (h : HeldView). h.arena.given) restarted.1 ∙ learnt.given ∙ ap (λ (n : ℕ). n + 1) lengthened.clauses.given in
@@ -179,7 +178,9 @@ loop-held-preserved-else-met g c =
     let low = c.loop-held.invariant.given in
     let decided = decided-back c.args.assumptions.now c.propagate.new.self.trail c.learn.new.held.trail learnt.back.0 learnt.back.1 (decided-longer c.args.assumptions.now old.trail lengthened.added c.propagate.new.self.trail lengthened.trail lengthened.reason c.loop-held.invariant.decided) in
     let listed = subst (λ (d : Clause). IsListed c.args.limit d c.loop-held.journal c.list_lemma.new.journal c.in_ok-met-in-Some.met) c.as_slice.ensures c.in_ok-met-in-Some.ensures in
-    let below = subst (λ (h : HeldView). AreBelow c.args.limit start.arena.given h.arena c.list_lemma.new.journal) (sym restarted.1) (AreBelow-listed c.args.limit start.arena.given c.propagate.new.self.arena c.learn.new.held.arena _ c.loop-held.journal c.list_lemma.new.journal _ (AreBelow-reordered c.args.limit start.arena.given old.arena c.propagate.new.self.arena c.loop-held.journal c.loop-held.invariant.listed lengthened.clauses) (learnt.listed start.arena.given c.loop-held.journal) listed c.if-met.false) in
+    let before = c.loop-held.invariant.listed in
+    let after_propagation = AreBelow-stays c.args.limit start.arena old.arena c.propagate.new.self.arena c.loop-held.journal (StayKept-reordered old.arena c.propagate.new.self.arena lengthened.clauses) before in
+    let below = subst (λ (h : HeldView). AreBelow c.args.limit start.arena h.arena c.list_lemma.new.journal) (sym restarted.1) (AreBelow-listed c.args.limit start.arena c.propagate.new.self.arena c.learn.new.held.arena _ c.loop-held.journal c.list_lemma.new.journal _ after_propagation (learnt.listed start (g.T.Tracer.told c.args.tracer.now) lengthened_search) listed c.if-met.false) in
     record {
       searching = gone.goes_on start (g.T.Tracer.told c.args.tracer.now) (let first : c.loop-held.reductions.first ≡ start.arena.given = c.loop-held.invariant.first in omega (arith, first)) moved;
       ready = subst (λ (h : HeldView). IsReady h c.restart_if_due.new.order) (sym gone.others) (IsReady-arena mid c.restart_if_due.new.order new.arena c.restart_if_due.ensures.ready);
@@ -190,12 +191,11 @@ loop-held-preserved-else-met g c =
       within = omega arith;
       decided = subst (λ (h : HeldView). AreDecided c.args.assumptions.now h.trail) (sym gone.others) (decided-back c.args.assumptions.now c.learn.new.held.trail mid.trail restarted.0 (ap (λ (h : HeldView). h.trail) restarted.1) decided);
       before = λ p a low at. absurd (omega (arith, low));
-      listed = turn-listed c.args.limit start.arena.given old mid new c.loop-held.reductions c.reduce_if_due.new.reductions _ _ low journal vars given gone reduced start.arena.given c.list_lemma.new.journal below;
-      journal = turn-journal c.args.limit start.arena.given old mid new c.loop-held.reductions c.reduce_if_due.new.reductions _ _ low journal vars given gone reduced c.reduce_if_due.ensures.consistent;
-      first = turn-first c.args.limit start.arena.given old mid new c.loop-held.reductions c.reduce_if_due.new.reductions _ _ low journal vars given gone reduced c.loop-held.invariant.first;
-      later = turn-later c.args.limit start.arena.given old mid new c.loop-held.reductions c.reduce_if_due.new.reductions _ _ low journal vars given gone reduced c.loop-held.invariant.later;
-      given = turn-given c.args.limit start.arena.given old mid new c.loop-held.reductions c.reduce_if_due.new.reductions _ _ low journal vars given gone reduced;
-      whole = turn-whole c.args.limit start.arena.given old mid new c.loop-held.reductions c.reduce_if_due.new.reductions _ _ low journal vars given gone reduced c.loop-held.invariant.whole;
+      listed = AreBelow-stays c.args.limit start.arena mid.arena new.arena c.list_lemma.new.journal gone.kept below;
+      journal = turn-journal start.arena.given old mid new c.loop-held.reductions c.reduce_if_due.new.reductions _ _ low journal vars given gone reduced c.reduce_if_due.ensures.consistent;
+      first = turn-first start.arena.given old mid new c.loop-held.reductions c.reduce_if_due.new.reductions _ _ low journal vars given gone reduced c.loop-held.invariant.first;
+      later = turn-later start.arena.given old mid new c.loop-held.reductions c.reduce_if_due.new.reductions _ _ low journal vars given gone reduced c.loop-held.invariant.later;
+      given = turn-given start.arena.given old mid new c.loop-held.reductions c.reduce_if_due.new.reductions _ _ low journal vars given gone reduced;
     }
 
 pub loop-held-smaller : goal.loop-held-smaller
@@ -210,7 +210,7 @@ loop-held-smaller g c =
     let vars : mid.vars ≡ old.vars = ap (λ (h : HeldView). h.vars) restarted ∙ search.leaves.vars ∙ sym c.loop-held.invariant.searching.leaves.vars in
     let given : mid.arena.given ≡ old.arena.given + 1 = ap (λ (h : HeldView). h.arena.given) restarted ∙ c.in_ok-learnt-in-Some.ensures.given ∙ ap (λ (n : ℕ). n + 1) lengthened.clauses.given in
     let journal = subst (λ (h : HeldView). IsJournal c.loop-held.reductions.since h.arena) (sym restarted) (c.in_ok-learnt-in-Some.ensures.journals c.loop-held.reductions.since (IsJournal-reordered c.loop-held.reductions.since old.arena c.propagate.new.self.arena c.loop-held.invariant.journal lengthened.clauses)) in
-    turn-smaller c.args.limit start.arena.given old mid c.reduce_if_due.new.held c.loop-held.reductions c.reduce_if_due.new.reductions _ _ c.loop-held.invariant.given journal vars given c.reduce_if_due.ensures.lets_go c.reduce_if_due.ensures.reduced c.no_longer_list.ensures.once c.restart_if_due.ensures.consistent
+    turn-smaller start.arena.given old mid c.reduce_if_due.new.held c.loop-held.reductions c.reduce_if_due.new.reductions _ _ c.loop-held.invariant.given journal vars given c.reduce_if_due.ensures.lets_go c.reduce_if_due.ensures.reduced c.no_longer_list.ensures.once c.restart_if_due.ensures.consistent
 
 pub loop-held-preserved : goal.loop-held-preserved
 loop-held-preserved g c =
@@ -224,7 +224,8 @@ loop-held-preserved g c =
     let gone = c.reduce_if_due.ensures.lets_go in
     let reduced = c.reduce_if_due.ensures.reduced in
     let told = g.T.Tracer.told c.learn.new.tracer in
-    let search = learnt.goes_on start (g.T.Tracer.told c.args.tracer.now) (IsSearching-lengthened start old c.propagate.new.self _ _ c.loop-held.invariant.searching lengthened) in
+    let lengthened_search = IsSearching-lengthened start old c.propagate.new.self _ _ c.loop-held.invariant.searching lengthened in
+    let search = learnt.goes_on start (g.T.Tracer.told c.args.tracer.now) lengthened_search in
     let moved = subst (λ (h : HeldView). IsSearching start h (g.T.Tracer.told c.args.tracer.now) told) (sym restarted.1) (IsSearching-moved start c.learn.new.held _ _ _ _ search) in
     let vars : mid.vars ≡ old.vars = ap (λ (h : HeldView). h.vars) restarted.1 ∙ search.leaves.vars ∙ sym c.loop-held.invariant.searching.leaves.vars in
     let given : mid.arena.given ≡ old.arena.given + 1 = ap (λ (h : HeldView). h.arena.given) restarted.1 ∙ learnt.given ∙ ap (λ (n : ℕ). n + 1) lengthened.clauses.given in
@@ -232,7 +233,9 @@ loop-held-preserved g c =
     let low = c.loop-held.invariant.given in
     let decided = decided-back c.args.assumptions.now c.propagate.new.self.trail c.learn.new.held.trail learnt.back.0 learnt.back.1 (decided-longer c.args.assumptions.now old.trail lengthened.added c.propagate.new.self.trail lengthened.trail lengthened.reason c.loop-held.invariant.decided) in
     let listed = subst (λ (d : Clause). IsListed c.args.limit d c.loop-held.journal c.list_lemma.new.journal c.in_ok-met-in-Some.met) c.as_slice.ensures c.in_ok-met-in-Some.ensures in
-    let below = subst (λ (h : HeldView). AreBelow c.args.limit start.arena.given h.arena c.list_lemma.new.journal) (sym restarted.1) (AreBelow-listed c.args.limit start.arena.given c.propagate.new.self.arena c.learn.new.held.arena _ c.loop-held.journal c.list_lemma.new.journal _ (AreBelow-reordered c.args.limit start.arena.given old.arena c.propagate.new.self.arena c.loop-held.journal c.loop-held.invariant.listed lengthened.clauses) (learnt.listed start.arena.given c.loop-held.journal) listed c.if-met.false) in
+    let before = c.loop-held.invariant.listed in
+    let after_propagation = AreBelow-stays c.args.limit start.arena old.arena c.propagate.new.self.arena c.loop-held.journal (StayKept-reordered old.arena c.propagate.new.self.arena lengthened.clauses) before in
+    let below = subst (λ (h : HeldView). AreBelow c.args.limit start.arena h.arena c.list_lemma.new.journal) (sym restarted.1) (AreBelow-listed c.args.limit start.arena c.propagate.new.self.arena c.learn.new.held.arena _ c.loop-held.journal c.list_lemma.new.journal _ after_propagation (learnt.listed start (g.T.Tracer.told c.args.tracer.now) lengthened_search) listed c.if-met.false) in
     record {
       searching = gone.goes_on start (g.T.Tracer.told c.args.tracer.now) (let first : c.loop-held.reductions.first ≡ start.arena.given = c.loop-held.invariant.first in omega (arith, first)) moved;
       ready = subst (λ (h : HeldView). IsReady h c.restart_if_due.new.order) (sym gone.others) (IsReady-arena mid c.restart_if_due.new.order new.arena c.restart_if_due.ensures.ready);
@@ -243,34 +246,32 @@ loop-held-preserved g c =
       within = omega arith;
       decided = subst (λ (h : HeldView). AreDecided c.args.assumptions.now h.trail) (sym gone.others) (decided-back c.args.assumptions.now c.learn.new.held.trail mid.trail restarted.0 (ap (λ (h : HeldView). h.trail) restarted.1) decided);
       before = λ p a low at. absurd (omega (arith, low));
-      listed = turn-listed c.args.limit start.arena.given old mid new c.loop-held.reductions c.reduce_if_due.new.reductions _ _ low journal vars given gone reduced start.arena.given c.list_lemma.new.journal below;
-      journal = turn-journal c.args.limit start.arena.given old mid new c.loop-held.reductions c.reduce_if_due.new.reductions _ _ low journal vars given gone reduced c.reduce_if_due.ensures.consistent;
-      first = turn-first c.args.limit start.arena.given old mid new c.loop-held.reductions c.reduce_if_due.new.reductions _ _ low journal vars given gone reduced c.loop-held.invariant.first;
-      later = turn-later c.args.limit start.arena.given old mid new c.loop-held.reductions c.reduce_if_due.new.reductions _ _ low journal vars given gone reduced c.loop-held.invariant.later;
-      given = turn-given c.args.limit start.arena.given old mid new c.loop-held.reductions c.reduce_if_due.new.reductions _ _ low journal vars given gone reduced;
-      whole = turn-whole c.args.limit start.arena.given old mid new c.loop-held.reductions c.reduce_if_due.new.reductions _ _ low journal vars given gone reduced c.loop-held.invariant.whole;
+      listed = AreBelow-stays c.args.limit start.arena mid.arena new.arena c.list_lemma.new.journal gone.kept below;
+      journal = turn-journal start.arena.given old mid new c.loop-held.reductions c.reduce_if_due.new.reductions _ _ low journal vars given gone reduced c.reduce_if_due.ensures.consistent;
+      first = turn-first start.arena.given old mid new c.loop-held.reductions c.reduce_if_due.new.reductions _ _ low journal vars given gone reduced c.loop-held.invariant.first;
+      later = turn-later start.arena.given old mid new c.loop-held.reductions c.reduce_if_due.new.reductions _ _ low journal vars given gone reduced c.loop-held.invariant.later;
+      given = turn-given start.arena.given old mid new c.loop-held.reductions c.reduce_if_due.new.reductions _ _ low journal vars given gone reduced;
     }
 
 pub returns-then-met-clause-listed : goal.returns-then-met-clause-listed
 returns-then-met-clause-listed g c =
     let start = c.args.held.now in
+    let old = c.loop-held.held in
+    let p = c.propagate.new.self in
     let lengthened = c.in_ok-propagate.ensures.lengthened in
+    let search = IsSearching-lengthened start old p (g.T.Tracer.told c.args.tracer.now) _ c.loop-held.invariant.searching lengthened in
     let listed = subst (λ (d : Clause). IsListed c.args.limit d c.loop-held.journal c.list_lemma.new.journal c.in_ok-met-in-Some.met) c.as_slice.ensures c.in_ok-met-in-Some.ensures in
-    AreAtLimit-listed c.args.limit start.arena.given c.propagate.new.self.arena c.learn.new.held.arena c.in_ok-learnt-in-Some.learnt.lits c.loop-held.journal c.list_lemma.new.journal c.in_ok-met-in-Some.met (AreBelow-reordered c.args.limit start.arena.given c.loop-held.held.arena c.propagate.new.self.arena c.loop-held.journal c.loop-held.invariant.listed lengthened.clauses) (c.in_ok-learnt-in-Some.ensures.listed start.arena.given c.loop-held.journal) listed c.if-met.true
+    let below = AreBelow-stays c.args.limit start.arena old.arena p.arena c.loop-held.journal (StayKept-reordered old.arena p.arena lengthened.clauses) c.loop-held.invariant.listed in
+    IsLimited-listed c.args.limit start p.arena c.learn.new.held.arena c.in_ok-learnt-in-Some.learnt.lits c.loop-held.journal c.list_lemma.new.journal c.in_ok-met-in-Some.met below (c.in_ok-learnt-in-Some.ensures.listed start _ search) listed c.if-met.true
 
 pub returns-then-met-clause-outcome : goal.returns-then-met-clause-outcome
 returns-then-met-clause-outcome g c =
     let start = c.args.held.now in
-    let old = c.loop-held.held in
-    let p = c.propagate.new.self in
-    let lengthened = c.in_ok-propagate.ensures.lengthened in
     let learnt = c.in_ok-learnt-in-Some.ensures in
-    let before = IsSearching-lengthened start old p _ _ c.loop-held.invariant.searching lengthened in
+    let before = IsSearching-lengthened start c.loop-held.held c.propagate.new.self _ _ c.loop-held.invariant.searching c.in_ok-propagate.ensures.lengthened in
     let search = learnt.goes_on start (g.T.Tracer.told c.args.tracer.now) before in
-    let listed = subst (λ (d : Clause). IsListed c.args.limit d c.loop-held.journal c.list_lemma.new.journal c.in_ok-met-in-Some.met) c.as_slice.ensures c.in_ok-met-in-Some.ensures in
-    let journal = learnt.journals c.loop-held.reductions.since (IsJournal-reordered c.loop-held.reductions.since old.arena p.arena c.loop-held.invariant.journal lengthened.clauses) in
     record {
-      ends = (search, learnt.under_way.ready, limited-journal c.args.limit c.loop-held.journal c.in_ok-learnt-in-Some.learnt.lits c.list_lemma.new.journal c.in_ok-met-in-Some.met c.loop-held.reductions.since start.arena.given c.learn.new.held.arena listed c.if-met.true c.loop-held.invariant.whole journal);
+      ends = (search, learnt.under_way.ready);
       consistent = learnt.under_way.consistent;
       alive = search.leaves.dead ∙ sym before.leaves.dead ∙ c.in_ok-propagate.ensures.alive;
       covers = learnt.under_way.covers;

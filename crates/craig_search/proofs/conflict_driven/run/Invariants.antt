@@ -1,4 +1,4 @@
-use Rattle.std.proofs.Common.{◌≡◌, ℕ, ◌≤◌, length, Some}
+use Rattle.std.proofs.Common.{◌≡◌, ◌≤◌, length}
 use Rattle.std.specs.Option.{is_some}
 use Rattle.craig_watch.specs.Held.{held_clause}
 use Rattle.craig_proof.specs.Covers.{IsCovering}
@@ -20,12 +20,11 @@ invariant-loop-held g l = record {
   within : l.place ≤ length l.assumptions;
   decided : AreDecided l.assumptions l.held.trail;
   before : AreTrueBefore l.held.trail l.assumptions l.place;
-  listed : AreBelow l.limit l.initial.held.arena.given l.held.arena l.journal;
+  listed : AreBelow l.limit l.initial.held.arena l.held.arena l.journal;
   journal : IsJournal l.reductions.since l.held.arena;
   first : l.reductions.first ≡ l.initial.held.arena.given;
   later : l.initial.held.arena.given ≤ l.reductions.since;
   given : l.reductions.since ≤ l.held.arena.given;
-  whole : (n : ℕ) → l.limit ≡ Some n → l.reductions.since ≡ l.initial.held.arena.given;
 }
 
 abbrev pub decreases-loop-held : goal.decreases-loop-held

@@ -8,7 +8,6 @@ use Rattle.craig_search.specs.Searching.{IsOutcome}
 use Rattle.craig_search.specs.Tells.{IsRoot, IsUnitId, Tells}
 use Rattle.craig_search.specs.Verdict.{IsRefuted}
 use Rattle.craig_search.proofs.FailedLemmas.{failed-contradictory, failed-leaves, failed-told}
-use Rattle.craig_search.proofs.LimitLemmas.{IsLimited-learnt}
 use Rattle.craig_search.proofs.SearchingLemmas.{IsSearching-moved}
 use Rattle.craig_search.proofs.VerdictLemmas.{refuted-contradictory, refuted-leaves, refuted-ready, refuted-told}
 use Rattle.craig_search.proofs.conflict_driven.search.Goals as goal
@@ -90,10 +89,10 @@ returns-clause-searched g c =
     let after = g.T.Tracer.told c.run.new.tracer in
     let back = c.go_back.ensures.back in
     let outcome = subst (IsOutcome c.args.assumptions.now start end c.run.new.order (g.T.Tracer.told c.args.tracer.now) after) c.in-Limited.is c.in_ok-outcome.ensures.outcome in
-    let listed = subst (ListsLemmas c.args.limit start.arena.given end.arena c.run.new.journal) c.in-Limited.is c.in_ok-outcome.ensures.listed in
+    let listed = subst (ListsLemmas c.args.limit start c.run.new.journal) c.in-Limited.is c.in_ok-outcome.ensures.listed in
     let search = outcome.ends.0 in
     record {
-      verdict = IsLimited-learnt start end (g.T.Tracer.told c.args.tracer.now) after c.run.new.journal c.level-level.ensures.consistent outcome.consistent search outcome.ends.2 listed.0 c.args.limit listed.1;
+      verdict = listed;
       ids = tt;
       at_rest = (ap (λ (h : HeldView). h.level) back, c.go_back.ensures.ready);
       leaves = subst (Leaves start) (sym back) (IsSearching-moved start end _ _ (part_up_to 0 end.trail) 0 search).leaves;

@@ -1,17 +1,18 @@
-use Rattle.std.proofs.Common.{◌≡◌, ◌+◌, ℕ, List, [], ◌∷◌, ◌++◌, All, refl, ap, sym, subst}
+use Rattle.std.proofs.Common.{◌≡◌, true, ◌+◌, ℕ, List, [], ◌∷◌, ◌++◌, All, refl, ap, sym, subst}
 use Rattle.std.specs.Option.{ForSome}
 use Rattle.std.proofs.lemmas.Result.{IfOk-from_err}
 use Rattle.craig_spec.specs.Literal.{Clause}
 use Rattle.craig_spec.specs.Chain.{ChainOk, Derived, IsUnforgotten, antecedents}
+use Rattle.craig_base.specs.Arena.{FlaggedClause}
 use Rattle.craig_base.specs.Clauses.{IsNormal}
 use Rattle.craig_proof.specs.Tracer.{chain_of}
 use Rattle.craig_proof.specs.declared.step.Step.{Step}
 use Rattle.craig_watch.specs.Held.{HeldView, MayBeHeld, held_clause}
 use Rattle.craig_search.specs.Searching.{IsNew}
 use Rattle.craig_search.proofs.LeavesLemmas.{Leaves-learnt}
-use Rattle.craig_search.specs.Journal.{AreLearnt}
+use Rattle.craig_search.specs.Journal.{AreLemmas}
 use Rattle.craig_search.proofs.JournalLemmas.{IsJournal-learnt}
-use Rattle.craig_search.proofs.LimitLemmas.{AreLearnt-learnt}
+use Rattle.craig_search.proofs.LimitLemmas.{AreLemmas-learnt, StayKept-added}
 use Rattle.craig_search.proofs.SearchingLemmas.{kept-learnt}
 use Rattle.craig_search.proofs.TellsLemmas.{TellsLearnt-told, derived-of_search}
 use Rattle.craig_proof.proofs.OldOrNextLemmas.{old_or_added}
@@ -51,10 +52,16 @@ returns-clause-journals g c = λ first journal.
     IsJournal-learnt first old.arena c.hold.new.self.arena c.in_ok-id.id.0 _ journal given c.in_ok-id.ensures.next c.in_ok-id.ensures.fresh c.in_ok-id.ensures.only c.in_ok-id.ensures.consistent.arena (subst (IsNew old.arena) (sym c.as_slice-lits.ensures) c.requires.new)
 
 pub returns-clause-listed : goal.returns-clause-listed
-returns-clause-listed g c = λ first lemmas are.
-    let old = c.args.held.now in
-    let given : c.hold.new.self.arena.given ≡ old.arena.given + 1 = ap (λ (h : HeldView). h.arena.given) c.in_ok-id.ensures.held in
-    subst (λ (d : Clause). AreLearnt first c.hold.new.self.arena (lemmas ++ d ∷ [])) c.as_slice-lits.ensures (AreLearnt-learnt first old.arena c.hold.new.self.arena c.in_ok-id.id.0 _ lemmas are given c.in_ok-id.ensures.next c.in_ok-id.ensures.fresh c.in_ok-id.ensures.only (subst IsNormal (sym c.as_slice-lits.ensures) c.requires.derived.normal))
+returns-clause-listed g c = λ start before search are.
+    let f : FlaggedClause = record { literals = c.as_slice-lits.result.now; flags = record { learnt = true; kept = c.may_have.result; glue = c.args.learnt.now.glue } } in
+    let lits = c.as_slice-lits.ensures in
+    let normal = subst IsNormal (sym lits) c.requires.derived.normal in
+    let new = subst (IsNew c.args.held.now.arena) (sym lits) c.requires.new in
+    let after = returns-clause-goes_on g c start before search in
+    subst (λ (d : Clause). AreLemmas start.arena c.hold.new.self.arena (c.args.journal.now ++ d ∷ [])) lits (AreLemmas-learnt start c.args.held.now c.hold.new.self before _ _ c.in_ok-id.id.0 f c.args.journal.now search after c.in_ok-id.ensures.fresh c.in_ok-id.ensures.only normal new c.may_have.ensures are)
+
+pub returns-clause-stay : goal.returns-clause-stay
+returns-clause-stay g c = StayKept-added c.args.held.now.arena c.hold.new.self.arena c.in_ok-id.id.0 _ c.in_ok-id.ensures.fresh c.in_ok-id.ensures.only
 
 pub returns-clause-covers : goal.returns-clause-covers
 returns-clause-covers g c =
@@ -98,3 +105,9 @@ returns-in_err-derived-clause-consistent g c = IfOk-from_err _ _ c.from_residual
 
 pub returns-in_err-derived-clause-covers : goal.returns-in_err-derived-clause-covers
 returns-in_err-derived-clause-covers g c = IfOk-from_err _ _ c.from_residual-in_err-derived.ensures.0
+
+pub returns-in_err-id-clause-stay : goal.returns-in_err-id-clause-stay
+returns-in_err-id-clause-stay g c = IfOk-from_err _ _ c.from_residual.ensures.0
+
+pub returns-in_err-derived-clause-stay : goal.returns-in_err-derived-clause-stay
+returns-in_err-derived-clause-stay g c = IfOk-from_err _ _ c.from_residual-in_err-derived.ensures.0

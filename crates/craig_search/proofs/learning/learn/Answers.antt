@@ -3,7 +3,7 @@ use Rattle.std.proofs.lemmas.Result.{IfOk-from_err}
 use Rattle.craig_spec.specs.Literal.{Literal}
 use Rattle.craig_proof.specs.declared.step.Step.{Step}
 use Rattle.craig_watch.specs.Held.{HeldView, MayBeHeld}
-use Rattle.craig_search.specs.Journal.{AreLearnt}
+use Rattle.craig_search.specs.Journal.{AreLemmas, StayKept}
 use Rattle.craig_search.specs.Searching.{IsJournal, IsSearching}
 use Rattle.craig_search.proofs.LearntLemmas.{back-below, fits-back, known-falsified, known-pivots}
 use Rattle.craig_search.proofs.SearchingLemmas.{IsSearching-moved}
@@ -47,8 +47,12 @@ returns-clause-journals g c = λ first journal.
     c.in_ok-hold_learnt.ensures.journals first (subst (λ (h : HeldView). IsJournal first h.arena) (sym c.go_back.ensures.back) journal)
 
 pub returns-clause-listed : goal.returns-clause-listed
-returns-clause-listed g c = λ first lemmas are.
-    c.in_ok-hold_learnt.ensures.listed first lemmas (subst (λ (h : HeldView). AreLearnt first h.arena lemmas) (sym c.go_back.ensures.back) are)
+returns-clause-listed g c = λ start before search are.
+    let moved = subst (λ (h : HeldView). IsSearching start h before (g.T.Tracer.told c.args.tracer.now)) (sym c.go_back.ensures.back) (IsSearching-moved start c.args.held.now before _ _ _ search) in
+    c.in_ok-hold_learnt.ensures.listed start before moved (subst (λ (h : HeldView). AreLemmas start.arena h.arena c.args.journal.now) (sym c.go_back.ensures.back) are)
+
+pub returns-clause-stay : goal.returns-clause-stay
+returns-clause-stay g c = subst (λ (h : HeldView). StayKept h.arena c.hold_learnt.new.held.arena) c.go_back.ensures.back c.in_ok-hold_learnt.ensures.stay
 
 pub returns-in_err-learnt-clause-goes_on : goal.returns-in_err-learnt-clause-goes_on
 returns-in_err-learnt-clause-goes_on g c = IfOk-from_err _ _ c.from_residual.ensures.0
@@ -79,3 +83,9 @@ returns-in_err-hold_learnt-clause-listed g c = IfOk-from_err _ _ c.from_residual
 
 pub returns-in_err-hold_learnt-clause-under_way : goal.returns-in_err-hold_learnt-clause-under_way
 returns-in_err-hold_learnt-clause-under_way g c = IfOk-from_err _ _ c.from_residual-in_err-hold_learnt.ensures.0
+
+pub returns-in_err-learnt-clause-stay : goal.returns-in_err-learnt-clause-stay
+returns-in_err-learnt-clause-stay g c = IfOk-from_err _ _ c.from_residual.ensures.0
+
+pub returns-in_err-hold_learnt-clause-stay : goal.returns-in_err-hold_learnt-clause-stay
+returns-in_err-hold_learnt-clause-stay g c = IfOk-from_err _ _ c.from_residual-in_err-hold_learnt.ensures.0

@@ -12,7 +12,7 @@ forget-requires g c =
 
 pub returns-clause-lets_go : goal.returns-clause-lets_go
 returns-clause-lets_go g c =
-    LetsGo-one c.args.id.0 c.args.id.0 c.args.held.now c.let_go.new.self (g.T.Tracer.told c.args.tracer.now) (g.T.Tracer.told c.forget.new.self) (omega arith) c.let_go.ensures.without c.let_go.ensures.only c.forget.ensures.told
+    LetsGo-one c.args.id.0 c.args.id.0 c.args.held.now c.let_go.new.self (g.T.Tracer.told c.args.tracer.now) (g.T.Tracer.told c.forget.new.self) (omega arith) (c.if-not-may_go.ensures.unkept refl) c.let_go.ensures.without c.let_go.ensures.only c.forget.ensures.told
 
 pub returns-clause-covers : goal.returns-clause-covers
 returns-clause-covers g c =

@@ -1,5 +1,5 @@
 use Rattle.std.proofs.Common.{◌≡◌, length, arith}
-use Rattle.craig_search.specs.Journal.{clauses_at_ends}
+use Rattle.craig_search.specs.StoredJournal.{clauses_at_ends}
 use Rattle.craig_search.proofs.FlatLemmas.{length-clauses_at_ends}
 use Rattle.craig_search.proofs.journal.Journal.len.Goals as goal
 

@@ -13,3 +13,4 @@ mod SearchedLemmas
 mod StandLemmas
 mod ToldLemmas
 pub mod ValueLemmas
+mod LetGoLemmas

@@ -162,6 +162,15 @@ MayAccept part clause s = (written : Clause) → SameLiterals written clause →
 abbrev pub AcceptsClause : {T : Type 0} → Part → Clause → Option Told → Option Told → State T → State T → Type 0
 AcceptsClause part clause before after old new = IsAdded part clause before after (living_view old) (living_view new)
 
+-- learnt clauses were let go
+pub record LetsLearntGo (old new : StateView) : Type 0 where
+  -- nothing else of the clauses, and of what was told, has changed
+  pub rest : new ≡ record old { held = new.held; told = new.told }
+  -- the same variables are known
+  pub vars : new.held.vars ≡ old.held.vars
+  -- the clauses that are not learnt are the same
+  pub held : clauses_under new.held.arena old.held_ids ≡ clauses_under old.held.arena old.held_ids
+
 -- units of the last refutation are forgotten, and all else is as before
 abbrev pub ForgetsUnits : StateView → StateView → Type 0
 ForgetsUnits old new = new ≡ record old { told = new.told; units = new.units }

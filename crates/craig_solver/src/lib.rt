@@ -8,6 +8,7 @@
 
 mod answer;
 mod copying;
+mod schedule;
 mod settling;
 mod solver;
 mod state;

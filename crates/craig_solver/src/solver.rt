@@ -105,7 +105,8 @@ impl<T: Tracer> Solver<T> {
     /// which rests on accepted clauses and on the units of these assumptions alone. The root of the answer before and
     /// its units are forgotten. The accepted clauses stay, and the held ones may change the order of their literals.
     ///
-    /// Lemmas stay held for the solves after this one.
+    /// What was learnt is kept for the solves after this one, but for the worse half of it once much was learnt, which is
+    /// forgotten.
     pub fn solve(
         &mut self,
         assumptions: &[(Part, Lit)],

@@ -5,16 +5,17 @@ ghost use Rattle.craig_spec.specs.Chain.{nothing_told};
 ghost use Rattle.craig_base.specs.Clauses.{IsNormal};
 ghost use Rattle.craig_proof.specs.Tracer.{Appends, original_step};
 ghost use Rattle.craig_solver.specs.Solver.{HoldsNext, IsSolved};
-ghost use Rattle.craig_solver.specs.State.{AcceptsClause, ForgetsRoot, ForgetsUnits, IsState, MayAccept, accepting, living_view, state_clauses, state_with};
+ghost use Rattle.craig_solver.specs.State.{AcceptsClause, ForgetsRoot, ForgetsUnits, IsState, LetsLearntGo, MayAccept, accepting, living_view, state_clauses, state_with};
 ghost use Rattle.craig_solver.specs.Told.{TellsNext};
 
 use crate::Answer;
 use crate::copying::copy_of;
+use crate::schedule::Schedule;
 use crate::settling::{answer_for, root_of, units_of};
 use craig_base::{ClauseId, Flags, Lit, Lits, Normal, Part, normal};
 use craig_order::Order;
 use craig_proof::Tracer;
-use craig_search::search;
+use craig_search::{Bar, may_go, search};
 use craig_watch::Held;
 use std::alloc::{AllocError, Global};
 
@@ -39,6 +40,8 @@ pub(crate) struct State<T: Tracer> {
     pub(crate) root: Option<ClauseId>,
     // how many units were told for it, with the ids directly below its own
     pub(crate) units: u64,
+    // when learnt clauses are let go
+    pub(crate) schedule: Schedule,
 }
 
 impl<T: Tracer> State<T> {
@@ -61,6 +64,7 @@ impl<T: Tracer> State<T> {
             held_ids: Vec::new(alloc),
             root: None,
             units: 0,
+            schedule: Schedule::new(),
         }
     }
 
@@ -154,6 +158,7 @@ impl<T: Tracer> State<T> {
         ensures kept { T.kept self.new.tracer ≡ T.kept self.old.tracer }
     {
         let alloc = *self.accepted.allocator();
+        self.let_learnt_go();
         self.forget_root();
         let held = &mut self.held;
         let order = &mut self.order;
@@ -161,6 +166,42 @@ impl<T: Tracer> State<T> {
         self.root = root_of(&verdict);
         self.units = units_of(&verdict);
         answer_for(alloc, held, order, verdict)
+    }
+
+    /// Lets the worse half of the clauses go that earlier searches learnt, once enough were learnt.
+    fn let_learnt_go(&mut self)
+        requires { IsState (state_with (T.told self.old.tracer) self.old) }
+        ensures state { IsState (state_with (T.told self.new.tracer) self.new) }
+        ensures lets_go { LetsLearntGo (state_with (T.told self.old.tracer) self.old) (state_with (T.told self.new.tracer) self.new) }
+        ensures tells { is_some (T.told self.new.tracer) ≡ is_some (T.told self.old.tracer) }
+        ensures kept { T.kept self.new.tracer ≡ T.kept self.old.tracer }
+    {
+        let given = self.held.arena().given();
+        let learnt = given.saturating_sub(self.held_ids.len() as u64);
+        if !self.schedule.is_due(learnt) {
+            return;
+        }
+        let mut bar = Bar::new(&self.held, 0);
+        for number in 0..given {
+            self.let_go_if_bad(ClauseId(number), &mut bar);
+        }
+        self.held.let_go_all(&[]);
+    }
+
+    /// Lets a learnt clause go where it is bad and no reason, and forgets its id.
+    fn let_go_if_bad(&mut self, id: ClauseId, bar: &mut Bar)
+        requires { IsState (state_with (T.told self.old.tracer) self.old) }
+        ensures state { IsState (state_with (T.told self.new.tracer) self.new) }
+        ensures lets_go { LetsLearntGo (state_with (T.told self.old.tracer) self.old) (state_with (T.told self.new.tracer) self.new) }
+        ensures tells { is_some (T.told self.new.tracer) ≡ is_some (T.told self.old.tracer) }
+        ensures kept { T.kept self.new.tracer ≡ T.kept self.old.tracer }
+    {
+        craig_proof::laws::covered_chain_is_told();
+        if !may_go(&self.held, id, bar) {
+            return;
+        }
+        self.held.let_go(id);
+        self.tracer.forget(id);
     }
 
     /// Forgets the root of the last refutation and its units.

@@ -1,10 +1,10 @@
 -- The tables of the literals that are assigned, after the trail changed.
-use Rattle.std.proofs.Common.{◌≡◌, ◌≢◌, ◌⊎◌, inl, inr, ℕ, suc, ◌+◌, ◌*◌, ◌<◌, ◌≤◌, Bool, true, false, cond, eqb, List, [], ◌∷◌, ◌++◌, length, get_or, set, map, All, Option, Some, None, is_none, refl, sym, ap, subst, ◌∙◌, arith, ne_eqb, eqb-true}
+use Rattle.std.proofs.Common.{◌≡◌, ◌≢◌, ◌⊎◌, inl, inr, ℕ, suc, ◌+◌, ◌-◌, ◌*◌, ◌<◌, ◌≤◌, Bool, true, false, cond, eqb, List, [], ◌∷◌, ◌++◌, length, get_or, set, take, All, Option, Some, None, is_none, refl, sym, ap, subst, ◌∙◌, arith, ne_eqb, eqb-true}
 use Rattle.std.proofs.lemmas.Bool.{eqb-false}
 use Rattle.std.proofs.lemmas.Bool.Decides.{leb_tells}
 use Rattle.std.proofs.lemmas.List.Sums.{count_by-le-length}
 use Rattle.std.proofs.lemmas.List.Quantifiers.{all_pairs_push}
-use Rattle.std.proofs.lemmas.List.{length_push, length-set, map-append, same_from_push, get_or_append_left, get_or-set_same, get_or-set_other}
+use Rattle.std.proofs.lemmas.List.{take_all, length_push, length-set, get_or_append_left, get_or-set_same, get_or-set_other}
 use Rattle.std.proofs.lemmas.List.Elements.{All-push}
 use Rattle.craig_spec.specs.Literal.{Literal, negation}
 use Rattle.craig_spec.proofs.LiteralLemmas.{same_or_not, negation_twice}
@@ -13,13 +13,13 @@ use Rattle.craig_base.proofs.LiteralsLemmas.{literal_code-injective, negation-fr
 use Rattle.craig_watch.specs.declared.trail_entry.TrailEntry.{TrailEntry}
 use Rattle.craig_watch.specs.declared.value.Value.{Value}
 use Rattle.craig_watch.specs.declared.value.Value.TheVariants.{True, False, Free}
-use Rattle.craig_watch.specs.Trail.{Trail, entry_of, value_under, part_up_to, decisions, AreDistinct, AreLevels}
+use Rattle.craig_watch.specs.Trail.{Trail, any_entry, entry_of, value_under, part_up_to, decisions, AreDistinct, AreLevels}
 use Rattle.craig_watch.specs.Assigned.{AssignedView, AreValues, IsTrail, TakesLast}
-use Rattle.craig_watch.specs.HeldFields.{IsStored}
+use Rattle.craig_watch.specs.HeldFields.{IsStored, any_assignment, entry_in, trail_of}
+use Rattle.craig_watch.specs.declared.assignment.Assignment.{Assignment}
 use Rattle.craig_watch.proofs.TrailLemmas.{entry_of-absent, entry_of-at, absent-entry_of, entry_of-free, get_or-last, value_under-same, value_under-absent, AreLevels-push, AreLevels-popped, level-last, part_up_to-push, part_up_to-whole, levels-bounded, decisions-push, at_most_one}
 use Rattle.craig_watch.proofs.PlacesLemmas.{true-entry, false-entry}
-use Rattle.craig_watch.proofs.HeldFieldsLemmas.{ArePlaces-grown}
-use Rattle.craig_watch.proofs.StoredLemmas.{IsStored-pushed, IsStored-popped}
+use Rattle.craig_watch.proofs.HeldFieldsLemmas.{entry-at, length-trail_of, IsPlaced-grown, IsPlaced-popped, IsPlaced-push, each-literal, trail_of-grown, trail_of-push, trail_of-pushed}
 
 -- an entry of another variable changes nothing
 entry_of-other : (t : Trail) (e : TrailEntry) (v : ℕ) → e.literal.var ≢ v → entry_of (t ++ e ∷ []) v ≡ entry_of t v
@@ -126,53 +126,109 @@ IsTrail-popped vars t e ok =
     }
 
 -- the fields of what is assigned are right
-pub record AreFields (literals : List Literal) (t : Trail) (places : List (Option ℕ)) (values : List Value) (lr er : ℕ) : Type 0 where
-  pub stored : IsStored literals t places lr er
-  pub values_right : AreValues values (length places) t
-  pub trail : IsTrail (length places) t
+pub record AreFields (lits : List Literal) (assignments : List Assignment) (values : List Value) (room : ℕ) : Type 0 where
+  pub stored : IsStored lits assignments room
+  pub values_right : AreValues values (length assignments) (trail_of lits assignments)
+  pub trail : IsTrail (length assignments) (trail_of lits assignments)
 
-pub Fields-pushed : (lits more_lits : List Literal) (t more : Trail) (places : List (Option ℕ)) (values : List Value) (e : TrailEntry) (lr er more_lr more_er v n c cn : ℕ) → IsStored lits t places lr er → AreValues values (length places) t → IsTrail (length places) t → e.literal.var < length places → value_under t e.literal ≡ Free → e.level ≡ decisions (t ++ e ∷ []) → lr ≤ more_lr → er ≤ more_er → v ≡ e.literal.var → n ≡ length t → c ≡ literal_code e.literal → cn ≡ literal_code (negation e.literal) → more_lits ≡ lits ++ e.literal ∷ [] → more ≡ t ++ e ∷ [] → AreFields more_lits more (set places v (Some n)) (set (set values c True) cn False) more_lr more_er
-Fields-pushed lits more_lits t more places values e lr er more_lr more_er v n c cn stored at trail known free level lr_le er_le v_is n_is c_is cn_is lits_is more_is =
-    let ok : IsTrail (length places) (t ++ e ∷ []) = IsTrail-push (length places) t e trail known free level in
-    let kept : length (set places e.literal.var (Some (length t))) ≡ length places = length-set places e.literal.var (Some (length t)) in
-    let new : AreFields (lits ++ e.literal ∷ []) (t ++ e ∷ []) (set places e.literal.var (Some (length t))) (set (set values (literal_code e.literal) True) (literal_code (negation e.literal)) False) more_lr more_er = record {
-      stored = IsStored-pushed lits t places e lr er more_lr more_er stored ok.known ok.distinct lr_le er_le;
-      values_right = subst (λ (m : ℕ). AreValues (set (set values (literal_code e.literal) True) (literal_code (negation e.literal)) False) m (t ++ e ∷ [])) (sym kept) (AreValues-push values (length places) t e at ok.distinct);
-      trail = subst (λ (m : ℕ). IsTrail m (t ++ e ∷ [])) (sym kept) ok;
-    } in
-    subst (λ (w : ℕ). AreFields more_lits more (set places w (Some n)) (set (set values c True) cn False) more_lr more_er) (sym v_is)
-    (subst (λ (m : ℕ). AreFields more_lits more (set places e.literal.var (Some m)) (set (set values c True) cn False) more_lr more_er) (sym n_is)
-    (subst (λ (m : ℕ). AreFields more_lits more (set places e.literal.var (Some (length t))) (set (set values m True) cn False) more_lr more_er) (sym c_is)
-    (subst (λ (m : ℕ). AreFields more_lits more (set places e.literal.var (Some (length t))) (set (set values (literal_code e.literal) True) m False) more_lr more_er) (sym cn_is)
-    (subst (λ (ls : List Literal). AreFields ls more (set places e.literal.var (Some (length t))) (set (set values (literal_code e.literal) True) (literal_code (negation e.literal)) False) more_lr more_er) (sym lits_is)
-    (subst (λ (u : Trail). AreFields (lits ++ e.literal ∷ []) u (set places e.literal.var (Some (length t))) (set (set values (literal_code e.literal) True) (literal_code (negation e.literal)) False) more_lr more_er) (sym more_is) new)))))
+-- and show a trail
+pub record ShowFields (lits : List Literal) (assignments : List Assignment) (values : List Value) (room : ℕ) (t : Trail) : Type 0 where
+  pub fields : AreFields lits assignments values room
+  pub shown : trail_of lits assignments ≡ t
 
-pub Fields-popped : (all lits : List Literal) (l : Literal) (whole t : Trail) (places : List (Option ℕ)) (values : List Value) (e : TrailEntry) (lr er less_lr less_er v c cn : ℕ) → IsStored all whole places lr er → AreValues values (length places) whole → IsTrail (length places) whole → all ≡ lits ++ l ∷ [] → whole ≡ t ++ e ∷ [] → v ≡ l.var → c ≡ literal_code l → cn ≡ literal_code (negation l) → less_lr ≡ lr → less_er ≡ er → AreFields lits t (set places v None) (set (set values c Free) cn Free) less_lr less_er
-Fields-popped all lits l whole t places values e lr er less_lr less_er v c cn stored at trail all_is whole_is v_is c_is cn_is lr_is er_is =
-    let was : IsStored (lits ++ l ∷ []) (t ++ e ∷ []) places lr er = subst (λ (ls : List Literal). IsStored ls (t ++ e ∷ []) places lr er) all_is (subst (λ (u : Trail). IsStored all u places lr er) whole_is stored) in
-    let were : AreValues values (length places) (t ++ e ∷ []) = subst (AreValues values (length places)) whole_is at in
-    let ok : IsTrail (length places) (t ++ e ∷ []) = subst (IsTrail (length places)) whole_is trail in
-    let same : l ≡ e.literal = (same_from_push lits (map (λ (f : TrailEntry). f.literal) t) l e.literal (was.same ∙ map-append (λ (f : TrailEntry). f.literal) t (e ∷ []))).1 in
-    let kept : length (set places l.var None) ≡ length places = length-set places l.var None in
-    let new : AreFields lits t (set places l.var None) (set (set values (literal_code l) Free) (literal_code (negation l)) Free) lr er = record {
-      stored = IsStored-popped lits l t places e lr er was ok.known ok.distinct;
-      values_right = subst (λ (m : ℕ). AreValues (set (set values (literal_code l) Free) (literal_code (negation l)) Free) m t) (sym kept) (subst (λ (m : Literal). AreValues (set (set values (literal_code m) Free) (literal_code (negation m)) Free) (length places) t) (sym same) (AreValues-popped values (length places) t e were ok.distinct));
-      trail = subst (λ (m : ℕ). IsTrail m t) (sym kept) (IsTrail-popped (length places) t e ok);
+pub Fields-pushed : (lits more_lits : List Literal) (assignments : List Assignment) (values : List Value) (e : TrailEntry) (room more_room v n c cn : ℕ) → AreFields lits assignments values room → e.literal.var < length assignments → value_under (trail_of lits assignments) e.literal ≡ Free → e.level ≡ decisions (trail_of lits assignments ++ e ∷ []) → room ≤ more_room → v ≡ e.literal.var → n ≡ length lits → c ≡ literal_code e.literal → cn ≡ literal_code (negation e.literal) → more_lits ≡ lits ++ e.literal ∷ [] → ShowFields more_lits (set assignments v (record { place = n; level = e.level; reason = e.reason })) (set (set values c True) cn False) more_room (trail_of lits assignments ++ e ∷ [])
+Fields-pushed lits more_lits assignments values e room more_room v n c cn f known free level le v_is n_is c_is cn_is lits_is =
+    let t : Trail = trail_of lits assignments in
+    let a : Assignment = record { place = length lits; level = e.level; reason = e.reason } in
+    let more : List Assignment = set assignments e.literal.var a in
+    let vals : List Value = set (set values (literal_code e.literal) True) (literal_code (negation e.literal)) False in
+    let apart : (k : ℕ) (d : Literal) → k < length lits → (get_or lits k d).var ≢ e.literal.var = each-literal (λ (x : ℕ). x ≢ e.literal.var) lits assignments (absent-entry_of t e.literal.var (entry_of-free t e.literal free)) in
+    let is : trail_of (lits ++ e.literal ∷ []) more ≡ t ++ e ∷ [] = trail_of-pushed lits e assignments (length lits) known apart in
+    let ok : IsTrail (length assignments) (t ++ e ∷ []) = IsTrail-push (length assignments) t e f.trail known free level in
+    let kept : length more ≡ length assignments = length-set assignments e.literal.var a in
+    let fit = f.stored.fits in
+    let new : ShowFields (lits ++ e.literal ∷ []) more vals more_room (t ++ e ∷ []) = record {
+      fields = record {
+        stored = record { placed = IsPlaced-push lits e.literal assignments a f.stored.placed refl known apart; fits = omega arith };
+        values_right = subst (AreValues vals (length more)) (sym is) (subst (λ (m : ℕ). AreValues vals m (t ++ e ∷ [])) (sym kept) (AreValues-push values (length assignments) t e f.values_right ok.distinct));
+        trail = subst (IsTrail (length more)) (sym is) (subst (λ (m : ℕ). IsTrail m (t ++ e ∷ [])) (sym kept) ok);
+      };
+      shown = is;
     } in
-    subst (λ (w : ℕ). AreFields lits t (set places w None) (set (set values c Free) cn Free) less_lr less_er) (sym v_is)
-    (subst (λ (m : ℕ). AreFields lits t (set places l.var None) (set (set values m Free) cn Free) less_lr less_er) (sym c_is)
-    (subst (λ (m : ℕ). AreFields lits t (set places l.var None) (set (set values (literal_code l) Free) m Free) less_lr less_er) (sym cn_is)
-    (subst (λ (m : ℕ). AreFields lits t (set places l.var None) (set (set values (literal_code l) Free) (literal_code (negation l)) Free) m less_er) (sym lr_is)
-    (subst (λ (m : ℕ). AreFields lits t (set places l.var None) (set (set values (literal_code l) Free) (literal_code (negation l)) Free) lr m) (sym er_is) new))))
+    subst (λ (w : ℕ). ShowFields more_lits (set assignments w (record { place = n; level = e.level; reason = e.reason })) (set (set values c True) cn False) more_room (t ++ e ∷ [])) (sym v_is)
+    (subst (λ (m : ℕ). ShowFields more_lits (set assignments e.literal.var (record { place = m; level = e.level; reason = e.reason })) (set (set values c True) cn False) more_room (t ++ e ∷ [])) (sym n_is)
+    (subst (λ (m : ℕ). ShowFields more_lits more (set (set values m True) cn False) more_room (t ++ e ∷ [])) (sym c_is)
+    (subst (λ (m : ℕ). ShowFields more_lits more (set (set values (literal_code e.literal) True) m False) more_room (t ++ e ∷ [])) (sym cn_is)
+    (subst (λ (ls : List Literal). ShowFields ls more vals more_room (t ++ e ∷ [])) (sym lits_is) new))))
 
-pub Fields-grown : (lits same_lits : List Literal) (t same_t : Trail) (places more : List (Option ℕ)) (values more_values : List Value) (lr er more_lr more_er : ℕ) → IsStored lits t places lr er → AreValues values (length places) t → IsTrail (length places) t → same_lits ≡ lits → same_t ≡ t → length places ≤ length more → length more ≤ 2147483648 → length more ≤ more_lr → length more ≤ more_er → 2 * length more ≤ length more_values → ((k : ℕ) (d : Option ℕ) → k < length places → get_or more k d ≡ get_or places k d) → ((k : ℕ) (d : Option ℕ) → length places ≤ k → k < length more → get_or more k d ≡ None) → ((k : ℕ) (d : Value) → k < length more_values → k < length values → get_or more_values k d ≡ get_or values k d) → ((k : ℕ) (d : Value) → length values ≤ k → k < length more_values → get_or more_values k d ≡ Free) → AreFields same_lits same_t more more_values more_lr more_er
-Fields-grown lits same_lits t same_t places more values more_values lr er more_lr more_er stored at trail lits_is t_is le few lr_le er_le sized old new old_values new_values =
-    let next : AreFields lits t more more_values more_lr more_er = record {
-      stored = record { same = stored.same; table = ArePlaces-grown places more t stored.table trail.known le old new; literals_fit = lr_le; entries_fit = er_le };
-      values_right = AreValues-grown values more_values (length places) (length more) t at trail.known sized old_values new_values;
-      trail = record { few = few; known = λ k d w. let low = trail.known k d w in omega arith; distinct = trail.distinct; levels = trail.levels };
+pub Fields-popped : (all lits : List Literal) (l : Literal) (assignments : List Assignment) (values : List Value) (room less_room c cn : ℕ) → AreFields all assignments values room → all ≡ lits ++ l ∷ [] → c ≡ literal_code l → cn ≡ literal_code (negation l) → less_room ≡ room → AreFields lits assignments (set (set values c Free) cn Free) less_room
+Fields-popped all lits l assignments values room less_room c cn f all_is c_is cn_is room_is =
+    let t : Trail = trail_of lits assignments in
+    let e : TrailEntry = entry_in assignments l in
+    let was : AreFields (lits ++ l ∷ []) assignments values room = subst (λ (ls : List Literal). AreFields ls assignments values room) all_is f in
+    let ok : IsTrail (length assignments) (t ++ e ∷ []) = subst (IsTrail (length assignments)) (trail_of-push lits l assignments) was.trail in
+    let at : AreValues values (length assignments) (t ++ e ∷ []) = subst (AreValues values (length assignments)) (trail_of-push lits l assignments) was.values_right in
+    let new : AreFields lits assignments (set (set values (literal_code l) Free) (literal_code (negation l)) Free) room = record {
+      stored = record { placed = IsPlaced-popped lits l assignments was.stored.placed; fits = was.stored.fits };
+      values_right = AreValues-popped values (length assignments) t e at ok.distinct;
+      trail = IsTrail-popped (length assignments) t e ok;
     } in
-    subst (λ (ls : List Literal). AreFields ls same_t more more_values more_lr more_er) (sym lits_is) (subst (λ (u : Trail). AreFields lits u more more_values more_lr more_er) (sym t_is) next)
+    subst (λ (m : ℕ). AreFields lits assignments (set (set values m Free) cn Free) less_room) (sym c_is)
+    (subst (λ (m : ℕ). AreFields lits assignments (set (set values (literal_code l) Free) m Free) less_room) (sym cn_is)
+    (subst (λ (m : ℕ). AreFields lits assignments (set (set values (literal_code l) Free) (literal_code (negation l)) Free) m) (sym room_is) new))
+
+pub Fields-grown : (lits same_lits : List Literal) (assignments more : List Assignment) (values more_values : List Value) (room more_room : ℕ) → AreFields lits assignments values room → same_lits ≡ lits → length assignments ≤ length more → length more ≤ 2147483648 → length more ≤ more_room → 2 * length more ≤ length more_values → ((k : ℕ) (d : Assignment) → k < length assignments → get_or more k d ≡ get_or assignments k d) → ((k : ℕ) (d : Value) → k < length more_values → k < length values → get_or more_values k d ≡ get_or values k d) → ((k : ℕ) (d : Value) → length values ≤ k → k < length more_values → get_or more_values k d ≡ Free) → ShowFields same_lits more more_values more_room (trail_of lits assignments)
+Fields-grown lits same_lits assignments more values more_values room more_room f lits_is le few fits sized old old_values new_values =
+    let t : Trail = trail_of lits assignments in
+    let known : (k : ℕ) (d : Literal) → k < length lits → (get_or lits k d).var < length assignments = each-literal (λ (x : ℕ). x < length assignments) lits assignments f.trail.known in
+    let is : trail_of lits more ≡ t = trail_of-grown lits assignments more known old in
+    let ok : IsTrail (length more) t = record { few = few; known = λ k d w. let low = f.trail.known k d w in omega arith; distinct = f.trail.distinct; levels = f.trail.levels } in
+    let next : ShowFields lits more more_values more_room t = record {
+      fields = record {
+        stored = record { placed = IsPlaced-grown lits assignments more f.stored.placed known old; fits = fits };
+        values_right = subst (AreValues more_values (length more)) (sym is) (AreValues-grown values more_values (length assignments) (length more) t f.values_right f.trail.known sized old_values new_values);
+        trail = subst (IsTrail (length more)) (sym is) ok;
+      };
+      shown = is;
+    } in
+    subst (λ (ls : List Literal). ShowFields ls more more_values more_room t) (sym lits_is) next
+
+-- the last literal is of a known variable, and has a value as its negation has
+last-known : (all lits : List Literal) (l : Literal) (assignments : List Assignment) (vars : ℕ) → IsTrail vars (trail_of all assignments) → all ≡ lits ++ l ∷ [] → l.var < vars
+last-known all lits l assignments vars ok is =
+    let t : Trail = trail_of lits assignments in
+    let e : TrailEntry = entry_in assignments l in
+    let long : length (t ++ e ∷ []) ≡ length t + 1 = length_push t e in
+    let was : IsTrail vars (t ++ e ∷ []) = subst (IsTrail vars) (trail_of-push lits l assignments) (subst (λ (ls : List Literal). IsTrail vars (trail_of ls assignments)) is ok) in
+    subst (λ (f : TrailEntry). f.literal.var < vars) (get_or-last t e (length t) e refl) (was.known (length t) e (omega arith))
+
+coded : (v : ℕ) (b : Bool) (n m : ℕ) → v < n → 2 * n ≤ m → 2 * v + cond b 1 0 < m
+coded v true n m low le = omega arith
+coded v false n m low le = omega arith
+
+pub last-valued : (all lits : List Literal) (l : Literal) (assignments : List Assignment) (values : List Value) (room : ℕ) → AreFields all assignments values room → all ≡ lits ++ l ∷ [] → literal_code l < length values
+last-valued all lits l assignments values room f is = coded l.var l.negated (length assignments) (length values) (last-known all lits l assignments (length assignments) f.trail is) f.values_right.sized
+
+pub negation-valued : (all lits : List Literal) (l : Literal) (assignments : List Assignment) (values : List Value) (room : ℕ) → AreFields all assignments values room → all ≡ lits ++ l ∷ [] → literal_code (negation l) < length values
+negation-valued all lits l assignments values room f is = coded l.var (negation l).negated (length assignments) (length values) (last-known all lits l assignments (length assignments) f.trail is) f.values_right.sized
+
+-- the last literal is of a known variable, and its level is the present one
+pub known-at_last : (read lits : List Literal) (l : Literal) (assignments : List Assignment) → read ≡ lits → IsTrail (length assignments) (trail_of lits assignments) → 0 < length read → l ≡ get_or read (length read - 1) l → l.var < length assignments
+known-at_last read lits l assignments same ok some is =
+    let all : (k : ℕ) (d : Literal) → k < length read → (get_or read k d).var < length assignments = subst (λ (ls : List Literal). (k : ℕ) (d : Literal) → k < length ls → (get_or ls k d).var < length assignments) (sym same) (each-literal (λ (x : ℕ). x < length assignments) lits assignments ok.known) in
+    subst (λ (x : Literal). x.var < length assignments) (sym is) (all (length read - 1) l (omega arith))
+
+pub level-at_last : (read lits : List Literal) (l : Literal) (assignments : List Assignment) → read ≡ lits → IsTrail (length assignments) (trail_of lits assignments) → 0 < length read → l ≡ get_or read (length read - 1) l → (get_or assignments l.var any_assignment).level ≡ decisions (trail_of lits assignments)
+level-at_last read lits l assignments same ok some is =
+    let t : Trail = trail_of lits assignments in
+    let k : ℕ = length read - 1 in
+    let size : length read ≡ length lits = ap length same in
+    let long : length t ≡ length lits = length-trail_of lits assignments in
+    let at : get_or t k any_entry ≡ entry_in assignments (get_or lits k l) = entry-at lits assignments k any_entry l (omega arith) in
+    let whole : take (suc k) t ≡ t = take_all (suc k) t (omega arith) in
+    ap (λ (x : Literal). (get_or assignments x.var any_assignment).level) is
+    ∙ ap (λ (ls : List Literal). (get_or assignments (get_or ls k l).var any_assignment).level) same
+    ∙ sym (ap (λ (e : TrailEntry). e.level) at) ∙ ok.levels k any_entry (omega arith) ∙ ap decisions whole
 
 -- what the fields show
 abbrev view_of : ℕ → Trail → AssignedView

@@ -1,91 +1,118 @@
--- Variables are found on the trail by the table of places.
-use Rattle.std.proofs.Common.{◌≡◌, ◌≢◌, inl, inr, ℕ, ◌+◌, ◌<◌, ◌≤◌, All, List, [], ◌∷◌, ◌++◌, length, get_or, set, Option, Some, None, IsSome, refl, sym, ap, ◌∙◌, arith, subst, true, false, suc}
+-- The trail, from the literals in their order and what is noted of their variables.
+use Rattle.std.proofs.Common.{◌≡◌, ◌≢◌, inl, inr, ℕ, suc, ◌+◌, ◌<◌, true, false, eqb, Bool, cond, All, List, [], ◌∷◌, ◌++◌, length, get_or, set, map, Option, Some, None, IsSome, refl, sym, ap, subst, ◌∙◌, arith, eqb-true}
 use Rattle.std.proofs.lemmas.Bool.Decides.{leb_tells}
-use Rattle.std.proofs.lemmas.List.{length_push, length-set, get_or_append_left, get_or-set_same, get_or-set_other}
-use Rattle.std.proofs.Common.{eqb, eqb-true, Bool, cond}
-use Rattle.std.proofs.lemmas.Bool.{eqb-false}
+use Rattle.std.proofs.lemmas.List.{length_push, length-map, map-append, get_or-map, get_or_append_left, get_or-set_same, get_or-set_other}
+use Rattle.craig_spec.specs.Literal.{Literal}
+use Rattle.craig_watch.specs.declared.assignment.Assignment.{Assignment}
 use Rattle.craig_watch.specs.declared.trail_entry.TrailEntry.{TrailEntry}
-use Rattle.craig_watch.specs.Trail.{any_entry, Trail, entry_of, AreDistinct}
-use Rattle.craig_watch.specs.HeldFields.{ArePlaces}
-use Rattle.craig_watch.proofs.TrailLemmas.{entry_of-absent, entry_of-at, absent-entry_of, get_or-last}
+use Rattle.craig_watch.specs.Trail.{any_entry, Trail, entry_of}
+use Rattle.craig_watch.specs.HeldFields.{IsPlaced, any_assignment, entry_in, entry_with, trail_of}
+use Rattle.craig_watch.proofs.PlacesLemmas.{place-found}
 
--- a variable without a place is not assigned
-pub entry_of-no_place : (places : List (Option ℕ)) (t : Trail) (v : ℕ) (n : Option ℕ) → ArePlaces places t → get_or places v n ≡ None → entry_of t v ≡ None
-entry_of-no_place places t v n h none =
-    entry_of-absent t v (λ k d w e.
-    let there : get_or places v n ≡ Some k = ap (λ (x : ℕ). get_or places x n) (sym e) ∙ h.placed k n d w in
-    let no : None ≡ Some k = sym none ∙ there in cc)
+-- what is noted of another variable
+entry_in-other : (assignments : List Assignment) (v : ℕ) (a : Assignment) (l : Literal) → l.var ≢ v → entry_in (set assignments v a) l ≡ entry_in assignments l
+entry_in-other assignments v a l ne = ap (entry_with l) (get_or-set_other assignments v l.var a any_assignment ne)
 
--- the entry at its place is that of the variable
-pub entry_of-place : (places : List (Option ℕ)) (t : Trail) (v p : ℕ) (n : Option ℕ) (d : TrailEntry) → ArePlaces places t → AreDistinct t → v < length places → get_or places v n ≡ Some p → entry_of t v ≡ Some (get_or t p d)
-entry_of-place places t v p n d h apart within there =
-    let found : (p < length t) × ((get_or t p d).literal.var ≡ v) = h.found v p n d within there in
-    subst (λ (w : ℕ). entry_of t w ≡ Some (get_or t p d)) found.1 (entry_of-at t p d apart found.0)
+trail_of-other : (lits : List Literal) (assignments : List Assignment) (v : ℕ) (a : Assignment) → ((k : ℕ) (d : Literal) → k < length lits → (get_or lits k d).var ≢ v) → trail_of lits (set assignments v a) ≡ trail_of lits assignments
+trail_of-other [] assignments v a apart = refl
+trail_of-other (l ∷ lits) assignments v a apart = λ i. entry_in-other assignments v a l (apart 0 l (omega arith)) i ∷ trail_of-other lits assignments v a (λ k d w. apart (suc k) d (omega arith)) i
 
--- it is a place on the trail
-pub place-within : (places : List (Option ℕ)) (t : Trail) (v p : ℕ) (n : Option ℕ) → ArePlaces places t → v < length places → get_or places v n ≡ Some p → p < length t
-place-within places t v p n h within there = (h.found v p n any_entry within there).0
+-- what is noted of more variables
+pub trail_of-grown : (lits : List Literal) (assignments more : List Assignment) → ((k : ℕ) (d : Literal) → k < length lits → (get_or lits k d).var < length assignments) → ((k : ℕ) (d : Assignment) → k < length assignments → get_or more k d ≡ get_or assignments k d) → trail_of lits more ≡ trail_of lits assignments
+trail_of-grown [] assignments more known old = refl
+trail_of-grown (l ∷ lits) assignments more known old = λ i. entry_with l (old l.var any_assignment (known 0 l (omega arith)) i) ∷ trail_of-grown lits assignments more (λ k d w. known (suc k) d (omega arith)) old i
 
--- a variable that is assigned has a place
-pub place-assigned : (places : List (Option ℕ)) (t : Trail) (v : ℕ) (n : Option ℕ) → ArePlaces places t → IsSome (entry_of t v) → get_or places v n ≢ None
-place-assigned places t v n h assigned none = let no : false ≡ true = subst (λ (o : Option TrailEntry). IsSome o) (entry_of-no_place places t v n h none) assigned in cc
+-- the literals of the trail
+pub literals-of : (lits : List Literal) (assignments : List Assignment) → map (λ (e : TrailEntry). e.literal) (trail_of lits assignments) ≡ lits
+literals-of [] assignments = refl
+literals-of (l ∷ lits) assignments = λ i. l ∷ literals-of lits assignments i
 
-found-push : (places : List (Option ℕ)) (t : Trail) (e : TrailEntry) → ArePlaces places t → e.literal.var < length places → (w p : ℕ) (n : Option ℕ) (d : TrailEntry) (b : Bool) → eqb w e.literal.var ≡ b → w < length places → get_or (set places e.literal.var (Some (length t))) w n ≡ Some p → (p < length (t ++ e ∷ [])) × ((get_or (t ++ e ∷ []) p d).literal.var ≡ w)
-found-push places t e h within w p n d true is known there =
-    let long : length (t ++ e ∷ []) ≡ length t + 1 = length_push t e in
-    let at : w ≡ e.literal.var = eqb-true w e.literal.var is in
-    let place : Some (length t) ≡ Some p = sym (ap (λ (x : ℕ). get_or (set places e.literal.var (Some (length t))) x n) at ∙ get_or-set_same places e.literal.var (Some (length t)) n within) ∙ there in
-    let last : length t ≡ p = cc in
-    (omega arith, ap (λ (f : TrailEntry). f.literal.var) (get_or-last t e p d (sym last)) ∙ sym at)
-found-push places t e h within w p n d false is known there =
-    let long : length (t ++ e ∷ []) ≡ length t + 1 = length_push t e in
-    let old : get_or places w n ≡ Some p = sym (get_or-set_other places e.literal.var w (Some (length t)) n (eqb-false w e.literal.var is)) ∙ there in
-    let f : (p < length t) × ((get_or t p d).literal.var ≡ w) = h.found w p n d known old in
-    (omega arith, ap (λ (g : TrailEntry). g.literal.var) (get_or_append_left t (e ∷ []) d p f.0) ∙ f.1)
+pub length-trail_of : (lits : List Literal) (assignments : List Assignment) → length (trail_of lits assignments) ≡ length lits
+length-trail_of lits assignments = length-map lits (entry_in assignments)
 
-found-popped : (places : List (Option ℕ)) (t : Trail) (e : TrailEntry) → ArePlaces places (t ++ e ∷ []) → e.literal.var < length places → (w p : ℕ) (n : Option ℕ) (d : TrailEntry) (b : Bool) → eqb w e.literal.var ≡ b → w < length places → get_or (set places e.literal.var None) w n ≡ Some p → (p < length t) × ((get_or t p d).literal.var ≡ w)
-found-popped places t e h within w p n d true is known there =
-    let at : w ≡ e.literal.var = eqb-true w e.literal.var is in
-    absurd (let no : None ≡ Some p = sym (ap (λ (x : ℕ). get_or (set places e.literal.var None) x n) at ∙ get_or-set_same places e.literal.var None n within) ∙ there in cc)
-found-popped places t e h within w p n d false is known there =
-    let long : length (t ++ e ∷ []) ≡ length t + 1 = length_push t e in
-    let old : get_or places w n ≡ Some p = sym (get_or-set_other places e.literal.var w None n (eqb-false w e.literal.var is)) ∙ there in
-    let f : (p < length (t ++ e ∷ [])) × ((get_or (t ++ e ∷ []) p d).literal.var ≡ w) = h.found w p n d known old in
-    let not_last : p ≡ length t → ⊥ = λ last. eqb-false w e.literal.var is (sym f.1 ∙ ap (λ (g : TrailEntry). g.literal.var) (get_or-last t e p d last)) in
-    let inside : p < length t = omega (arith, not_last) in
-    (inside, ap (λ (g : TrailEntry). g.literal.var) (sym (get_or_append_left t (e ∷ []) d p inside)) ∙ f.1)
+-- the entry at a place
+pub entry-at : (lits : List Literal) (assignments : List Assignment) (k : ℕ) (d : TrailEntry) (e : Literal) → k < length lits → get_or (trail_of lits assignments) k d ≡ entry_in assignments (get_or lits k e)
+entry-at lits assignments k d e w = get_or-map (entry_in assignments) lits k e d w
 
--- the place of a new last entry
-pub ArePlaces-push : (places : List (Option ℕ)) (t : Trail) (e : TrailEntry) → ArePlaces places t → e.literal.var < length places → entry_of t e.literal.var ≡ None → ArePlaces (set places e.literal.var (Some (length t))) (t ++ e ∷ [])
-ArePlaces-push places t e h within free =
-    let v : ℕ = e.literal.var in
-    let long : length (t ++ e ∷ []) ≡ length t + 1 = length_push t e in
-    let same : length (set places v (Some (length t))) ≡ length places = length-set places v (Some (length t)) in
+pub each-literal : (P : ℕ → Type 0) (lits : List Literal) (assignments : List Assignment) → All (λ e. P e.literal.var) (trail_of lits assignments) → (k : ℕ) (d : Literal) → k < length lits → P (get_or lits k d).var
+each-literal P lits assignments all k d w =
+    let long = length-trail_of lits assignments in
+    subst (λ (e : TrailEntry). P e.literal.var) (entry-at lits assignments k any_entry d w) (all k any_entry (omega arith))
+
+-- an entry more
+pub trail_of-push : (lits : List Literal) (l : Literal) (assignments : List Assignment) → trail_of (lits ++ l ∷ []) assignments ≡ trail_of lits assignments ++ entry_in assignments l ∷ []
+trail_of-push lits l assignments = map-append (entry_in assignments) lits (l ∷ [])
+
+pub trail_of-pushed : (lits : List Literal) (e : TrailEntry) (assignments : List Assignment) (place : ℕ) → e.literal.var < length assignments → ((k : ℕ) (d : Literal) → k < length lits → (get_or lits k d).var ≢ e.literal.var) → trail_of (lits ++ e.literal ∷ []) (set assignments e.literal.var (record { place = place; level = e.level; reason = e.reason })) ≡ trail_of lits assignments ++ e ∷ []
+trail_of-pushed lits e assignments place known apart =
+    let a : Assignment = record { place = place; level = e.level; reason = e.reason } in
+    trail_of-push lits e.literal (set assignments e.literal.var a)
+    ∙ ap (λ (t : Trail). t ++ entry_in (set assignments e.literal.var a) e.literal ∷ []) (trail_of-other lits assignments e.literal.var a apart)
+    ∙ ap (λ (b : Assignment). trail_of lits assignments ++ entry_with e.literal b ∷ []) (get_or-set_same assignments e.literal.var a any_assignment known)
+
+last-at : (xs : List Literal) (x d : Literal) → get_or (xs ++ x ∷ []) (length xs) d ≡ x
+last-at [] x d = refl
+last-at (y ∷ xs) x d = last-at xs x d
+
+pub IsPlaced-push : (lits : List Literal) (l : Literal) (assignments : List Assignment) (a : Assignment) → IsPlaced lits assignments → a.place ≡ length lits → l.var < length assignments → ((k : ℕ) (d : Literal) → k < length lits → (get_or lits k d).var ≢ l.var) → IsPlaced (lits ++ l ∷ []) (set assignments l.var a)
+IsPlaced-push lits l assignments a h is known apart k d w =
+    let long : length (lits ++ l ∷ []) ≡ length lits + 1 = length_push lits l in
+    elim (leb_tells (suc k) (length lits)) [
+      | inl before ↦
+          ap (λ (x : Literal). (get_or (set assignments l.var a) x.var any_assignment).place) (get_or_append_left lits (l ∷ []) d k before.1)
+          ∙ ap (λ (b : Assignment). b.place) (get_or-set_other assignments l.var (get_or lits k d).var a any_assignment (apart k d before.1))
+          ∙ h k d before.1
+      | inr last ↦
+          let past : length lits < suc k = last.1 in
+          let here : k ≡ length lits = omega arith in
+          ap (λ (n : ℕ). (get_or (set assignments l.var a) (get_or (lits ++ l ∷ []) n d).var any_assignment).place) here
+          ∙ ap (λ (x : Literal). (get_or (set assignments l.var a) x.var any_assignment).place) (last-at lits l d)
+          ∙ ap (λ (b : Assignment). b.place) (get_or-set_same assignments l.var a any_assignment known)
+          ∙ is ∙ sym here
+    ]
+
+pub IsPlaced-popped : (lits : List Literal) (l : Literal) (assignments : List Assignment) → IsPlaced (lits ++ l ∷ []) assignments → IsPlaced lits assignments
+IsPlaced-popped lits l assignments h k d w =
+    let long : length (lits ++ l ∷ []) ≡ length lits + 1 = length_push lits l in
+    ap (λ (x : Literal). (get_or assignments x.var any_assignment).place) (sym (get_or_append_left lits (l ∷ []) d k w)) ∙ h k d (omega arith)
+
+pub IsPlaced-grown : (lits : List Literal) (assignments more : List Assignment) → IsPlaced lits assignments → ((k : ℕ) (d : Literal) → k < length lits → (get_or lits k d).var < length assignments) → ((k : ℕ) (d : Assignment) → k < length assignments → get_or more k d ≡ get_or assignments k d) → IsPlaced lits more
+IsPlaced-grown lits assignments more h known old k d w = ap (λ (b : Assignment). b.place) (old (get_or lits k d).var any_assignment (known k d w)) ∙ h k d w
+
+some-is : {X : Type 0} (o : Option X) → IsSome o → (x : X) × (o ≡ Some x)
+some-is None h = absurd (let no : false ≡ true = h in cc)
+some-is (Some x) h = (x, refl)
+
+-- what is noted of a variable that is assigned
+pub record IsNoted (lits : List Literal) (assignments : List Assignment) (v : ℕ) : Type 0 where
+  pub entry : TrailEntry
+  pub found : entry_of (trail_of lits assignments) v ≡ Some entry
+  pub level : entry.level ≡ (get_or assignments v any_assignment).level
+  pub reason : entry.reason ≡ (get_or assignments v any_assignment).reason
+  pub within : (get_or assignments v any_assignment).place < length (trail_of lits assignments)
+  pub there : (d : TrailEntry) → get_or (trail_of lits assignments) (get_or assignments v any_assignment).place d ≡ entry
+
+any_literal : Literal
+any_literal = record { var = 0; negated = false }
+
+pub noted : (lits : List Literal) (assignments : List Assignment) (v : ℕ) → IsPlaced lits assignments → IsSome (entry_of (trail_of lits assignments) v) → IsNoted lits assignments v
+noted lits assignments v h some =
+    let t : Trail = trail_of lits assignments in
+    let found = some-is (entry_of t v) some in
+    let p = place-found t v found.0 found.1 in
+    let long : length t ≡ length lits = length-trail_of lits assignments in
+    let low_t : p.0 < length t = p.1 in
+    let low : p.0 < length lits = omega arith in
+    let is : entry_in assignments (get_or lits p.0 any_literal) ≡ found.0 = sym (entry-at lits assignments p.0 any_entry any_literal low) ∙ p.3 any_entry in
+    let var : (get_or lits p.0 any_literal).var ≡ v = ap (λ (e : TrailEntry). e.literal.var) is ∙ p.2 in
+    let at : (get_or assignments v any_assignment).place ≡ p.0 = ap (λ (n : ℕ). (get_or assignments n any_assignment).place) (sym var) ∙ h p.0 any_literal low in
     record {
-      found = λ w p n d known there. found-push places t e h within w p n d (eqb w v) refl (omega arith) there;
-      placed = λ k n d w. elim (leb_tells (suc k) (length t)) [
-        | inl here ↦
-            let inside : k < length t = here.1 in
-            let apart : (get_or t k d).literal.var ≢ v = absent-entry_of t v free k d inside in
-            ap (λ (f : TrailEntry). get_or (set places v (Some (length t))) f.literal.var n) (get_or_append_left t (e ∷ []) d k inside) ∙ get_or-set_other places v (get_or t k d).literal.var (Some (length t)) n apart ∙ h.placed k n d inside
-        | inr gone ↦
-            let past : length t < suc k = gone.1 in
-            let is : k ≡ length t = omega arith in
-            ap (λ (f : TrailEntry). get_or (set places v (Some (length t))) f.literal.var n) (get_or-last t e k d is) ∙ get_or-set_same places v (Some (length t)) n within ∙ ap Some (sym is)
-      ];
-    }
-
--- and without it
-pub ArePlaces-popped : (places : List (Option ℕ)) (t : Trail) (e : TrailEntry) → ArePlaces places (t ++ e ∷ []) → e.literal.var < length places → AreDistinct (t ++ e ∷ []) → ArePlaces (set places e.literal.var None) t
-ArePlaces-popped places t e h within apart =
-    let v : ℕ = e.literal.var in
-    let long : length (t ++ e ∷ []) ≡ length t + 1 = length_push t e in
-    let same : length (set places v None) ≡ length places = length-set places v None in
-    record {
-      found = λ w p n d known there. found-popped places t e h within w p n d (eqb w v) refl (omega arith) there;
-      placed = λ k n d w.
-          let other : (get_or t k d).literal.var ≢ v = λ e2. apart k (length t) d w (omega arith) (ap (λ (f : TrailEntry). f.literal.var) (get_or_append_left t (e ∷ []) d k w) ∙ e2 ∙ ap (λ (f : TrailEntry). f.literal.var) (sym (get_or-last t e (length t) d refl))) in
-          get_or-set_other places v (get_or t k d).literal.var None n other ∙ ap (λ (f : TrailEntry). get_or places f.literal.var n) (sym (get_or_append_left t (e ∷ []) d k w)) ∙ h.placed k n d (omega arith);
+      entry = found.0;
+      found = found.1;
+      level = sym (ap (λ (e : TrailEntry). e.level) is) ∙ ap (λ (n : ℕ). (get_or assignments n any_assignment).level) var;
+      reason = sym (ap (λ (e : TrailEntry). e.reason) is) ∙ ap (λ (n : ℕ). (get_or assignments n any_assignment).reason) var;
+      within = subst (λ (n : ℕ). n < length t) (sym at) low_t;
+      there = λ d. ap (λ (n : ℕ). get_or t n d) at ∙ p.3 d;
     }
 
 assigned-cases : (b : Bool) (e : TrailEntry) (t : Trail) (vars v : ℕ) → eqb e.literal.var v ≡ b → e.literal.var < vars → IsSome (cond b (Some e) (entry_of t v)) → (IsSome (entry_of t v) → v < vars) → v < vars
@@ -96,13 +123,3 @@ assigned-cases false e t vars v is low assigned rest = rest assigned
 pub assigned-known : (t : Trail) (vars v : ℕ) → All (λ e. e.literal.var < vars) t → IsSome (entry_of t v) → v < vars
 assigned-known [] vars v known assigned = absurd (let no : false ≡ true = assigned in cc)
 assigned-known (e ∷ t) vars v known assigned = assigned-cases (eqb e.literal.var v) e t vars v refl (known 0 e (omega arith)) assigned (assigned-known t vars v (λ k d w. known (suc k) d (omega arith)))
-
--- the places of more variables
-pub ArePlaces-grown : (places more : List (Option ℕ)) (t : Trail) → ArePlaces places t → All (λ e. e.literal.var < length places) t → length places ≤ length more → ((k : ℕ) (d : Option ℕ) → k < length places → get_or more k d ≡ get_or places k d) → ((k : ℕ) (d : Option ℕ) → length places ≤ k → k < length more → get_or more k d ≡ None) → ArePlaces more t
-ArePlaces-grown places more t h known le old new = record {
-  found = λ v p n d w there. elim (leb_tells (suc v) (length places)) [
-    | inl here ↦ h.found v p n d here.1 (sym (old v n here.1) ∙ there)
-    | inr gone ↦ let past : length places < suc v = gone.1 in absurd (let no : None ≡ Some p = sym (new v n (omega arith) w) ∙ there in cc)
-  ];
-  placed = λ k n d w. old (get_or t k d).literal.var n (known k d w) ∙ h.placed k n d w;
-}

@@ -1,23 +1,33 @@
--- How the literals on the trail are found by their variables.
-use Rattle.std.specs.Prelude.{◌≡◌, ℕ, ◌<◌, ◌≤◌, List, map, Option, Some, length, slice_index_or}
+-- How the trail is kept: the literals in a list, and by variable the place, the level and the reason.
+use Rattle.std.specs.Prelude.{◌≡◌, ℕ, ◌<◌, ◌≤◌, List, map, None, length, slice_index_or}
 use Rattle.craig_spec.specs.Literal.{Literal}
+use Rattle.craig_watch.specs.declared.assignment.Assignment.{Assignment}
 use Rattle.craig_watch.specs.declared.trail_entry.TrailEntry.{TrailEntry}
 use Rattle.craig_watch.specs.Trail.{Trail}
 
--- the table has, by variable, the place of the variable on the trail
-pub record ArePlaces (places : List (Option ℕ)) (t : Trail) : Type 0 where
-  -- each place in the table has its variable
-  pub found : (v p : ℕ) (n : Option ℕ) (d : TrailEntry) → v < length places → slice_index_or places v n ≡ Some p → (p < length t) × ((slice_index_or t p d).literal.var ≡ v)
-  -- each literal on the trail is in the table
-  pub placed : (k : ℕ) (n : Option ℕ) (d : TrailEntry) → k < length t → slice_index_or places (slice_index_or t k d).literal.var n ≡ Some k
+-- an assignment to name where a variable has none
+abbrev pub any_assignment : Assignment
+any_assignment = record { place = 0; level = 0; reason = None }
 
--- the fields show one trail, and have room for every variable on it
-pub record IsStored (literals : List Literal) (entries : Trail) (places : List (Option ℕ)) (literal_room entry_room : ℕ) : Type 0 where
-  -- the literals are those of the entries
-  pub same : literals ≡ map (λ e. e.literal) entries
-  -- the table has the places of the variables
-  pub table : ArePlaces places entries
-  -- a literal of each variable fits into the one list
-  pub literals_fit : length places ≤ literal_room
-  -- and its entry into the other
-  pub entries_fit : length places ≤ entry_room
+-- the entry of a literal whose variable has the assignment
+abbrev pub entry_with : Literal → Assignment → TrailEntry
+entry_with l a = record { literal = l; level = a.level; reason = a.reason }
+
+-- the entry of a literal that is assigned
+abbrev pub entry_in : List Assignment → Literal → TrailEntry
+entry_in assignments l = entry_with l (slice_index_or assignments l.var any_assignment)
+
+-- the trail of the literals that are assigned
+abbrev pub trail_of : List Literal → List Assignment → Trail
+trail_of literals assignments = map (entry_in assignments) literals
+
+-- the place of a literal in the list is noted beside its variable
+abbrev pub IsPlaced : List Literal → List Assignment → Type 0
+IsPlaced literals assignments = (k : ℕ) (d : Literal) → k < length literals → (slice_index_or assignments (slice_index_or literals k d).var any_assignment).place ≡ k
+
+-- each literal is placed, and there is room for one of every known variable
+pub record IsStored (literals : List Literal) (assignments : List Assignment) (literal_room : ℕ) : Type 0 where
+  -- places are noted
+  pub placed : IsPlaced literals assignments
+  -- a literal of each variable fits into the list
+  pub fits : length assignments ≤ literal_room

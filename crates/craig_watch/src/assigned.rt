@@ -5,12 +5,20 @@ ghost use Rattle.craig_watch.specs.Trail.{IsAssigned, decisions, entry_of, part_
 ghost use Rattle.craig_watch.specs.Assigned.{IsTrail, TakesLast};
 ghost use Rattle.craig_watch.specs.declared.value.Value.TheVariants.{Free};
 
+use crate::assignment::Assignment;
 use crate::trail_entry::TrailEntry;
 use crate::value::Value;
 use crate::watch_lists::code;
-use craig_base::{Lit, Var};
+use craig_base::{ClauseId, Lit, Var};
 use std::alloc::{AllocError, Global};
 use std::marker::Model;
+
+/// What is noted of a variable that was never assigned.
+const UNASSIGNED: Assignment = Assignment {
+    place: 0,
+    level: 0,
+    reason: None,
+};
 
 /// The literals that are assigned, in the order in which they were assigned, with their levels and reasons.
 ///
@@ -18,10 +26,8 @@ use std::marker::Model;
 #[derive(Drop)]
 pub struct Assigned {
     literals: Vec<Lit>,
-    // the literals again, with their levels and reasons
-    entries: Vec<TrailEntry>,
-    // by variable, its place on the trail
-    places: Vec<Option<usize>>,
+    // by variable, its place, level and reason where it is assigned, and else what is left of an earlier assignment
+    assignments: Vec<Assignment>,
     // by the code of a literal, its value
     values: Vec<Value>,
 }
@@ -29,13 +35,13 @@ pub struct Assigned {
 impl Model for Assigned {
     ghost use Rattle.std.specs.Prelude.{length, vec_capacity};
     ghost use Rattle.craig_watch.specs.Assigned.{AreValues, AssignedView, IsTrail};
-    ghost use Rattle.craig_watch.specs.HeldFields.{IsStored};
+    ghost use Rattle.craig_watch.specs.HeldFields.{IsStored, trail_of};
 
     ghost Value = { AssignedView };
 
-    ghost view = { λ s. record { vars = length s.places.items; trail = s.entries.items } };
+    ghost view = { λ s. record { vars = length s.assignments.items; trail = trail_of s.literals.items s.assignments.items } };
 
-    ghost invariant = { λ s. record { stored : IsStored s.literals.items s.entries.items s.places.items (vec_capacity s.literals) (vec_capacity s.entries); values : AreValues s.values.items (length s.places.items) s.entries.items; trail : IsTrail (length s.places.items) s.entries.items } };
+    ghost invariant = { λ s. record { stored : IsStored s.literals.items s.assignments.items (vec_capacity s.literals); values : AreValues s.values.items (length s.assignments.items) (trail_of s.literals.items s.assignments.items); trail : IsTrail (length s.assignments.items) (trail_of s.literals.items s.assignments.items) } };
 }
 
 impl Assigned {
@@ -45,8 +51,7 @@ impl Assigned {
     {
         Assigned {
             literals: Vec::new(alloc),
-            entries: Vec::new(alloc),
-            places: Vec::new(alloc),
+            assignments: Vec::new(alloc),
             values: Vec::new(alloc),
         }
     }
@@ -61,10 +66,8 @@ impl Assigned {
     {
         self.literals
             .reserve(vars.saturating_sub(self.literals.len()))?;
-        self.entries
-            .reserve(vars.saturating_sub(self.entries.len()))?;
         self.values.resize(2 * vars, Value::Free)?;
-        self.places.resize(vars, None)?;
+        self.assignments.resize(vars, UNASSIGNED)?;
         Ok(())
     }
 
@@ -76,12 +79,15 @@ impl Assigned {
         ensures pushed { self.new ≡ record self.old { trail = self.old.trail ++ entry ∷ [] } }
         ensures is_trail { IsTrail self.new.vars self.new.trail }
     {
-        let place = self.literals.len();
-        self.places[entry.literal.var().0 as usize] = Some(place);
+        let place = self.literals.len() as u32;
+        self.assignments[entry.literal.var().0 as usize] = Assignment {
+            place,
+            level: entry.level,
+            reason: entry.reason,
+        };
         self.values[code(entry.literal)] = Value::True;
         self.values[code(entry.literal.not())] = Value::False;
         let _ = self.literals.push(entry.literal);
-        let _ = self.entries.push(entry);
     }
 
     /// Takes the last literal from the trail.
@@ -93,8 +99,6 @@ impl Assigned {
         let Some(lit) = self.literals.pop() else {
             unreachable!();
         };
-        self.entries.pop();
-        self.places[lit.var().0 as usize] = None;
         self.values[code(lit)] = Value::Free;
         self.values[code(lit.not())] = Value::Free;
     }
@@ -116,8 +120,8 @@ impl Assigned {
         ensures value { result ≡ decisions self.now.trail }
         ensures is_trail { IsTrail self.now.vars self.now.trail }
     {
-        match self.entries.last() {
-            Some(entry) => entry.level,
+        match self.literals.last() {
+            Some(lit) => self.assignments[lit.var().0 as usize].level,
             None => 0,
         }
     }
@@ -127,7 +131,7 @@ impl Assigned {
         ensures value { result ≡ self.now.vars }
         ensures is_trail { IsTrail self.now.vars self.now.trail }
     {
-        self.places.len() as u32
+        self.assignments.len() as u32
     }
 
     /// The true literals in the order in which they were assigned.
@@ -141,7 +145,7 @@ impl Assigned {
     pub fn len(&self) -> usize
         ensures { result ≡ length self.now.trail }
     {
-        self.entries.len()
+        self.literals.len()
     }
 
     /// The value of a literal of a known variable.
@@ -158,17 +162,22 @@ impl Assigned {
         ensures within { result < length self.now.trail }
         ensures entry { slice_get self.now.trail result ≡ entry_of self.now.trail var.0 }
     {
-        match self.places[var.0 as usize] {
-            Some(place) => place,
-            None => unreachable!(),
-        }
+        self.assignments[var.0 as usize].place as usize
     }
 
-    /// The entry of a variable that is assigned.
-    pub fn entry(&self, var: Var) -> TrailEntry
+    /// The level at which a variable was assigned.
+    pub fn level_of(&self, var: Var) -> u32
         requires { IsAssigned self.now.trail var.0 }
-        ensures { entry_of self.now.trail var.0 ≡ Some result }
+        ensures { option_map (λ e. e.level) (entry_of self.now.trail var.0) ≡ Some result }
     {
-        self.entries[self.place_of(var)]
+        self.assignments[var.0 as usize].level
+    }
+
+    /// The clause that forced a variable that is assigned, and none where it was decided.
+    pub fn reason(&self, var: Var) -> Option<ClauseId>
+        requires { IsAssigned self.now.trail var.0 }
+        ensures { option_map (λ e. e.reason) (entry_of self.now.trail var.0) ≡ Some result }
+    {
+        self.assignments[var.0 as usize].reason
     }
 }

@@ -190,7 +190,7 @@ impl Held {
         requires { IsAssigned self.now.trail var.0 }
         ensures { option_map (λ e. e.level) (entry_of self.now.trail var.0) ≡ Some result }
     {
-        self.watched.assigned.entry(var).level
+        self.watched.assigned.level_of(var)
     }
 
     /// The clause that forced a variable that is assigned, and none where it was decided.
@@ -198,7 +198,7 @@ impl Held {
         requires { IsAssigned self.now.trail var.0 }
         ensures { option_map (λ e. e.reason) (entry_of self.now.trail var.0) ≡ Some result }
     {
-        self.watched.assigned.entry(var).reason
+        self.watched.assigned.reason(var)
     }
 
     /// The position on the trail of a variable that is assigned, counted from 0.

@@ -7,6 +7,7 @@
 #![tactic(auto)]
 
 mod assigned;
+mod assignment;
 mod beside;
 mod held;
 mod keeping;

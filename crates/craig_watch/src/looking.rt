@@ -147,7 +147,7 @@ impl Watched {
         ensures { result ≡ rank_of self.now.assigned.trail lit }
     {
         if self.assigned.value(lit) == Value::False {
-            self.assigned.entry(lit.var()).level
+            self.assigned.level_of(lit.var())
         } else {
             4294967295
         }

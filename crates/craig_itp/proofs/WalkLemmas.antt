@@ -1,16 +1,15 @@
 -- A walk over the steps that a root needs.
-use Rattle.std.proofs.Common.{◌≡◌, inl, inr, ℕ, suc, ◌+◌, ◌-◌, ◌<◌, ◌≤◌, Bool, eqb, List, [], ◌∷◌, ◌++◌, length, get_or, map, slice_get, All, Contains, Some, None, Result, Ok, Err, IfOk, refl, sym, ap, ◌∙◌, subst, arith, eq-eqb, length-append}
+use Rattle.std.proofs.Common.{◌≡◌, inl, inr, ℕ, suc, ◌+◌, ◌-◌, ◌<◌, ◌≤◌, Bool, eqb, List, [], ◌∷◌, ◌++◌, length, get_or, map, slice_get, All, Contains, Some, None, Result, Ok, Err, IfOk, refl, sym, ap, ◌∙◌, subst, arith, eq-eqb, length-append, append-nil}
 use Rattle.std.proofs.lemmas.Bool.{cases_lt}
 use Rattle.std.proofs.lemmas.List.{get_or_default}
+use Rattle.std.proofs.Math.Seq.{get_or-append_seam}
 use Rattle.std.proofs.lemmas.Option.{get_or_from_slice_get, same_Some, slice_get-get_or}
 use Rattle.craig_spec.specs.Literal.{Clause}
 use Rattle.craig_spec.specs.Truth.{Assignment, literal_value}
 use Rattle.craig_spec.specs.Chain.{ChainStep, Derived, Origin, Original, ToldStep, IsTold, antecedents}
 use Rattle.craig_spec.specs.PartialInterpolant.{Label, Labelling, chain_value, join_value, origin_value, partial_values}
-use Rattle.craig_spec.proofs.MemberLemmas.{Contains-front, Contains-from_slice_get, Contains-later, list_any-member, slice_get-below}
+use Rattle.craig_spec.proofs.MemberLemmas.{Contains-front, Contains-from_slice_get, Contains-image, Contains-later, list_any-member, slice_get-below}
 use Rattle.craig_proof.specs.NeededSteps.{last_id}
-use Rattle.craig_proof.specs.Tracer.{chain_of}
-use Rattle.craig_proof.specs.declared.step.Step.{Step}
 use Rattle.craig_aig.specs.Cones.{cone}
 use Rattle.craig_aig.specs.Edges.{Edge}
 use Rattle.craig_aig.specs.Growth.{ArenaGrows}
@@ -27,7 +26,6 @@ use Rattle.craig_itp.proofs.PartialValuesLemmas.{MeetsRules-partial_values}
 use Rattle.craig_itp.proofs.SequenceLemmas.{at_pushed}
 use Rattle.craig_itp.proofs.SharedLemmas.{inputs_are_shared}
 use Rattle.craig_itp.proofs.StandingLemmas.{each_stands}
-use Rattle.craig_itp.proofs.ToldEdgesLemmas.{antecedent_at, length-antecedents}
 
 -- an edge that is read at the place of an id
 pub edge_at_place : (l : Labelling) (part : List ToldStep) (nodes : List Node) (edges : List Edge) (id k : ℕ) (s : ToldStep) (e : Edge) → AreFirstEdges l part nodes edges → slice_get part k ≡ Some s → s.id ≡ id → k < length edges → e ≡ get_or edges k e → IsEdgeOf l part nodes id e
@@ -135,17 +133,32 @@ module _ (part : List ToldStep) (root place : ℕ) (s : ToldStep) (told : IsTold
                 omega arith)
           ]
 
-  pub first_before : (first : ℕ) (rest : List Step) → s.origin ≡ Derived first (chain_of rest) → IsBefore part place first
+  pub first_before : (first : ℕ) (rest : List ChainStep) → s.origin ≡ Derived first rest → IsBefore part place first
   first_before first rest is = antecedent_before first (subst (λ (o : Origin). Contains (antecedents o) first) (sym is) (Contains-front first _))
 
-  pub rest_before : (first : ℕ) (rest : List Step) → s.origin ≡ Derived first (chain_of rest) → All (λ q. IsBefore part place q.antecedent.0) rest
+  pub rest_before : (first : ℕ) (rest : List ChainStep) → s.origin ≡ Derived first rest → All (λ q. IsBefore part place q.antecedent) rest
   rest_before first rest is k d within =
-      antecedent_before (get_or rest k d).antecedent.0 (subst (λ (o : Origin). Contains (antecedents o) (get_or rest k d).antecedent.0) (sym is) (Contains-later first _ _ (named rest k d within)))
-    where
-      named : (rest : List Step) (k : ℕ) (d : Step) → k < length rest → Contains (map (λ q. q.antecedent) (chain_of rest)) (get_or rest k d).antecedent.0
-      named rest k d within =
-          let inside : k < length (map (λ q. q.antecedent) (chain_of rest)) = omega (arith, within, length-antecedents rest) in
-          (k, inside, get_or_default (map (λ q. q.antecedent) (chain_of rest)) k (get_or rest k d).antecedent.0 0 inside ∙ antecedent_at rest k d within)
+      antecedent_before (get_or rest k d).antecedent (subst (λ (o : Origin). Contains (antecedents o) (get_or rest k d).antecedent) (sym is) (Contains-later first _ _ (Contains-image (λ (q : ChainStep). q.antecedent) rest (get_or rest k d) (k, within, get_or_default rest k (get_or rest k d) d within))))
+
+-- what was read of a chain, and the edge so far
+pub record IsWalked (l : Labelling) (part : List ToldStep) (first : ℕ) (whole left : List ChainStep) (nodes : List Node) (e : Edge) : Type 0 where
+  pub done : List ChainStep
+  pub split : done ++ left ≡ whole
+  pub chain : IsEdgeOfChain l part first done nodes e
+
+-- what holds of each resolution holds of the next one that is read
+pub next_of_chain : (P : ChainStep → Type 0) (done left whole : List ChainStep) (s : ChainStep) (later : List ChainStep) → All P whole → done ++ left ≡ whole → left ≡ s ∷ later → P s
+next_of_chain P done left whole s later all split is =
+    let whole_is : done ++ s ∷ later ≡ whole = ap (λ xs. done ++ xs) (sym is) ∙ split in
+    let within : length done < length whole = omega (arith, ap length whole_is, length-append done (s ∷ later)) in
+    subst P (ap (λ xs. get_or xs (length done) s) (sym whole_is) ∙ get_or-append_seam done s later s) (all (length done) s within)
+
+pub IsWalked-all : (l : Labelling) (part : List ToldStep) (first : ℕ) (whole : List ChainStep) (nodes : List Node) (e : Edge) → IsEdgeOfChain l part first [] nodes e → IsWalked l part first whole whole nodes e
+IsWalked-all l part first whole nodes e start = record { done = []; split = refl; chain = start }
+
+pub IsWalked-done : (l : Labelling) (part : List ToldStep) (first : ℕ) (whole left : List ChainStep) (nodes : List Node) (e : Edge) → left ≡ [] → IsWalked l part first whole left nodes e → IsEdgeOfChain l part first whole nodes e
+IsWalked-done l part first whole left nodes e none walked =
+    subst (λ xs. IsEdgeOfChain l part first xs nodes e) (sym (append-nil walked.done) ∙ ap (λ xs. walked.done ++ xs) (sym none) ∙ walked.split) walked.chain
 
 -- the edge of the last step is the interpolant
 module _ (sides : SidesView) (cut : ℕ) (marks : ℕ → Label) (part : List ToldStep) (root : ℕ) (nodes : List Node) (edges : List Edge) (ends : EndInRoot sides part root) (are : AreFirstEdges (labelling sides cut marks) part nodes edges) (all : length edges ≡ length part) where

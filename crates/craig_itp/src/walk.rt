@@ -1,11 +1,10 @@
 //! One walk over the steps that a root needs, with an edge for each: partial interpolants after D'Silva, Kroening,
-//! Purandare and Weissenbacher, VMCAI 2010, from kept chains and without a copy of them.
+//! Purandare and Weissenbacher, VMCAI 2010, from packed chains as they are kept, and without a copy of them.
 ghost use Rattle.std.specs.Prelude.{◌≡◌, ◌<◌, ◌≤◌, All, length, IfOk, List};
 ghost use Rattle.craig_spec.specs.PartialInterpolant.{Labelling};
 ghost use Rattle.craig_aig.specs.Arenas.{IsAig};
 ghost use Rattle.craig_aig.specs.Growth.{ArenaGrows};
 ghost use Rattle.craig_aig.specs.declared.node.Node.{Node};
-ghost use Rattle.craig_proof.specs.Tracer.{chain_of};
 ghost use Rattle.craig_system.specs.Rules.{labelling};
 ghost use Rattle.craig_itp.specs.Interpolants.{IsInterpolant};
 ghost use Rattle.craig_itp.specs.StepEdges.{IsEdgeOf};
@@ -15,7 +14,7 @@ use crate::chain_edge::leaf_edge;
 use craig_aig::{Aig, Edge};
 use craig_base::ClauseId;
 use craig_label::Sides;
-use craig_proof::{Needed, NeededStep, Step};
+use craig_proof::{Needed, NeededStep, PackedSteps};
 use craig_system::System;
 use std::alloc::{AllocError, Global};
 
@@ -36,19 +35,20 @@ fn edge_of_chain<S: System>(
     cut: u16,
     system: &S,
     first: ClauseId,
-    rest: &[Step],
+    rest: PackedSteps<'_>,
 ) -> Result<Edge, AllocError>
     requires cut { cut ≤ sides.now.parts }
     requires edges { AreFirstEdges (labelling sides.now cut (S.marks system.now)) needed.now aig.old edges.now }
     requires first { IsBefore needed.now (length edges.now) first.0 }
-    requires rest { All (λ s. IsBefore needed.now (length edges.now) s.antecedent.0) rest.now }
-    ensures chain { IfOk result (IsEdgeOfChain (labelling sides.now cut (S.marks system.now)) needed.now first.0 (chain_of rest.now) aig.new) }
+    requires rest { All (λ s. IsBefore needed.now (length edges.now) s.antecedent) rest }
+    ensures chain { IfOk result (IsEdgeOfChain (labelling sides.now cut (S.marks system.now)) needed.now first.0 rest.entry aig.new) }
     ensures grows { ArenaGrows aig.old aig.new }
 {
     // What holds of each arena is known from here on.
     let _ = aig.len();
     let mut edge = edge_of_id(needed, edges, first);
-    for step in rest {
+    let mut left = rest;
+    while let Some(step) = left.next() {
         let right = edge_of_id(needed, edges, step.antecedent);
         edge = system.join(aig, sides, cut, step.pivot, edge, right)?;
     }

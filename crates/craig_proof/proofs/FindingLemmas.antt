@@ -13,11 +13,9 @@ use Rattle.craig_spec.proofs.MemberLemmas.{Contains-cases, list_any-find}
 use Rattle.craig_spec.proofs.MemberLemmas.{list_any-member as passes-member}
 use Rattle.craig_spec.proofs.ToldLemmas.{StandsOn-given}
 use Rattle.craig_spec.specs.Literal.{Clause}
-use Rattle.craig_spec.specs.Chain.{ChainStep, ToldStep, Told, antecedents, clause_told, IsChain, EachStands, AreRising, IsTold}
+use Rattle.craig_spec.specs.Chain.{ChainStep, ToldStep, Told, antecedents, clause_told, IsChain, EachStands, AreRising, IsTold, Derived}
 use Rattle.craig_spec.specs.Needed.{IsClosed, IsNeeded, IsNeededPart, unforgotten}
 use Rattle.craig_proof.specs.NeededSteps.{bound_of, HasId, IsTaken, WaitsMore, waits}
-use Rattle.craig_proof.specs.Tracer.{chain_of}
-use Rattle.craig_proof.specs.declared.step.Step.{Step}
 use Rattle.craig_proof.proofs.ToldLemmas.{HasId-at}
 use Rattle.craig_proof.proofs.FollowsLemmas.{told_place}
 
@@ -168,17 +166,20 @@ IsNeededPart-exists t told root =
     let closed = closed_done t.steps root all.0 all.1 in
     (map unforgotten (filter (λ s. all.0 s.id) t.steps), (all.0, λ s here. (all.1.needed s.id, λ needed. needed all.0 all.1.rooted closed), refl))
 
-list_any-chain : (x : ℕ) (chain : List Step) → list_any (eqb x) (map (λ s. s.antecedent) (chain_of chain)) ≡ list_any (λ s. eqb x s.antecedent.0) chain
-list_any-chain x [] = refl
-list_any-chain x (s ∷ chain) = ap (λ b. eqb x s.antecedent.0 || b) (list_any-chain x chain)
-
 or_join : (a b c : Bool) → (a || (b || c)) ≡ ((a || b) || c)
 or_join true b c = refl
 or_join false b c = refl
 
 -- the pairs and then the first antecedent are all antecedents
-pub antecedents_wait : (x first : ℕ) (chain : List Step) (a b c : Bool) → a ≡ (eqb x first || b) → b ≡ (list_any (λ s. eqb x s.antecedent.0) chain || c) → a ≡ (list_any (eqb x) (first ∷ map (λ s. s.antecedent) (chain_of chain)) || c)
-antecedents_wait x first chain a b c one two = rw (one, two, list_any-chain x chain) (or_join (eqb x first) (list_any (λ s. eqb x s.antecedent.0) chain) c)
+pub antecedents_wait : (x first : ℕ) (rest : List ChainStep) (a b c : Bool) → a ≡ (eqb x first || b) → b ≡ (list_any (eqb x) (map (λ s. s.antecedent) rest) || c) → a ≡ (list_any (eqb x) (antecedents (Derived first rest)) || c)
+antecedents_wait x first rest a b c one two = rw (one, two) (or_join (eqb x first) (list_any (eqb x) (map (λ s. s.antecedent) rest)) c)
+
+-- one antecedent comes into the set, of those that are left
+pub or_moved : (a b c : Bool) → (a || (b || c)) ≡ ((b || a) || c)
+or_moved true true c = refl
+or_moved true false c = refl
+or_moved false true c = refl
+or_moved false false c = refl
 
 -- an id of the steps that were found
 abbrev pub was_found : List ToldStep → ℕ → Bool

@@ -7,7 +7,9 @@ pub mod FollowsLemmas
 mod LentLemmas
 pub mod FindingLemmas
 pub mod OldOrNextLemmas
+pub mod PackedLemmas
 pub mod PairLemmas
+mod RowLemmas
 pub mod PartLemmas
 pub mod ReclaimLemmas
 pub mod ReplayLemmas

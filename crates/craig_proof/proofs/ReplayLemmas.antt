@@ -7,10 +7,11 @@ use Rattle.std.proofs.lemmas.List.Elements.{All-take}
 use Rattle.std.proofs.Math.Seq.{take-length}
 use Rattle.craig_spec.proofs.ToldLemmas.{StandsOn-given}
 use Rattle.craig_spec.specs.Literal.{Clause}
-use Rattle.craig_spec.specs.Chain.{ToldStep, Told, antecedents, clause_told, nothing_told, with_step, IsUnforgotten, IsAbove, StandsOn, EachStands, AreRising}
+use Rattle.craig_spec.specs.Chain.{Derived, Original, ToldStep, Told, antecedents, clause_told, nothing_told, with_step, IsUnforgotten, IsAbove, StandsOn, EachStands, AreRising}
 use Rattle.craig_spec.specs.Needed.{unforgotten}
 use Rattle.craig_proof.specs.NeededSteps.{last_id, TellsSteps}
-use Rattle.craig_proof.specs.Tracer.{Appends}
+use Rattle.craig_proof.specs.Tracer.{Appends, chain_of, derived_step, original_step}
+use Rattle.craig_proof.specs.declared.step.Step.{Step}
 
 -- the steps of the ids that pass, not forgotten
 abbrev pub part : (ℕ → Bool) → List ToldStep → List ToldStep
@@ -108,3 +109,10 @@ IsTelling-done steps place old (Some u) is telling t told =
     let all : take place steps ≡ steps = rw (is, take-length) refl in
     let same : u.steps ≡ steps = (telling.first_told u refl).steps_are ∙ all in
     (u, refl, same, (telling.first_told u refl).greatest_is ∙ ap last_id same)
+
+-- the step that is told is the one that is kept
+pub told_original : (s : ToldStep) (id part : ℕ) (literals : Clause) → s.id ≡ id → s.literals ≡ literals → s.origin ≡ Original part → unforgotten s ≡ original_step id part literals
+told_original s id part literals a b c = λ i. record { id = a i; literals = b i; origin = c i; forgotten = false }
+
+pub told_derived : (s : ToldStep) (id first : ℕ) (literals : Clause) (rest : List Step) → s.id ≡ id → s.literals ≡ literals → s.origin ≡ Derived first (chain_of rest) → unforgotten s ≡ derived_step id literals first rest
+told_derived s id first literals rest a b c = λ i. record { id = a i; literals = b i; origin = c i; forgotten = false }

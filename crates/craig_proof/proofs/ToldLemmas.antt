@@ -9,11 +9,13 @@ use Rattle.std.proofs.lemmas.List.Quantifiers.{all_pairs_push}
 use Rattle.std.proofs.lemmas.List.Elements.{All-push}
 use Rattle.std.proofs.Math.Bool.{or-true}
 use Rattle.craig_spec.specs.Literal.{Clause}
-use Rattle.craig_spec.specs.Chain.{Origin, ToldStep, Told, nothing_told, with_step, forgotten_at, without_id, clause_told, IsUnforgotten, IsAbove, StandsOn, IsTold}
+use Rattle.craig_spec.specs.Chain.{Origin, ToldStep, Told, antecedents, nothing_told, with_step, forgotten_at, without_id, clause_told, IsUnforgotten, IsAbove, StandsOn, IsTold}
 use Rattle.craig_spec.specs.Needed.{IsOriginal}
 use Rattle.craig_base.specs.Clauses.{IsNormal}
 use Rattle.craig_proof.specs.NeededSteps.{HasId}
 use Rattle.craig_proof.specs.StoredSteps.{IsStore}
+use Rattle.craig_proof.specs.Tracer.{chain_of}
+use Rattle.craig_proof.specs.declared.step.Step.{Step}
 use Rattle.craig_proof.proofs.ChainLemmas.{StandsOn-same}
 
 -- at first nothing is told
@@ -64,7 +66,8 @@ clause_told-forgotten id x (s ∷ steps) =
 StandsOn-forgotten : (id : ℕ) (steps : List ToldStep) (c : Clause) (origin : Origin) → StandsOn steps c origin → StandsOn (map (forgotten_at id) steps) c origin
 StandsOn-forgotten id steps c origin = StandsOn-same steps (map (forgotten_at id) steps) c origin (λ x here. clause_told-forgotten id x steps)
 
-same_but_mark : (id : ℕ) (s : ToldStep) → ((forgotten_at id s).id ≡ s.id) × ((forgotten_at id s).literals ≡ s.literals) × ((forgotten_at id s).origin ≡ s.origin)
+-- nothing but the mark changes
+pub same_but_mark : (id : ℕ) (s : ToldStep) → ((forgotten_at id s).id ≡ s.id) × ((forgotten_at id s).literals ≡ s.literals) × ((forgotten_at id s).origin ≡ s.origin)
 same_but_mark id s =
     elim (eqb s.id id) as (λ b. ((cond b (record { id = s.id; literals = s.literals; origin = s.origin; forgotten = true }) s).id ≡ s.id) × ((cond b (record { id = s.id; literals = s.literals; origin = s.origin; forgotten = true }) s).literals ≡ s.literals) × ((cond b (record { id = s.id; literals = s.literals; origin = s.origin; forgotten = true }) s).origin ≡ s.origin)) [
       | true ↦ (refl, refl, refl)
@@ -154,3 +157,28 @@ HasId-at (s ∷ steps) id (suc k) within at = rw (HasId-at steps id k (omega ari
 -- an id that isn't forgotten stands somewhere
 pub HasId-unforgotten : (steps : List ToldStep) (id : ℕ) → IsUnforgotten steps id → HasId steps id
 HasId-unforgotten steps id h = let p = unforgotten_place steps id h in HasId-at steps id p.0 p.1 p.2
+
+-- an id that isn't forgotten is below one that is above all
+unforgotten_below : (t : Told) (id x : ℕ) → IsTold t → IsAbove t id → IsUnforgotten t.steps x → x < id
+unforgotten_below t id x told above held =
+    let p = unforgotten_place t.steps x held in
+    let d : ToldStep = record { id = 0; literals = []; origin = Origin.Original 0; forgotten = false } in
+    let g = told.greatest p.0 d p.1 in
+    let low = above g.0 g.1 in
+    let is = p.2 d in
+    let at_most = g.2 in
+    omega (arith, low, is, at_most)
+
+-- so are the antecedents of a chain over what was told
+pub first_below : (t : Told) (id first : ℕ) (rest : List Step) → IsTold t → IsAbove t id → All (IsUnforgotten t.steps) (antecedents (Origin.Derived first (chain_of rest))) → first < id
+first_below t id first rest told above held = unforgotten_below t id first told above (held 0 first (omega arith))
+
+pub antecedents_below : (t : Told) (id first : ℕ) (rest : List Step) → IsTold t → IsAbove t id → All (IsUnforgotten t.steps) (antecedents (Origin.Derived first (chain_of rest))) → All (λ (s : Step). s.antecedent.0 < id) rest
+antecedents_below t id first [] told above held k d within = absurd (omega arith)
+antecedents_below t id first (s ∷ rest) told above held zero d within = unforgotten_below t id s.antecedent.0 told above (held 1 0 (omega arith))
+antecedents_below t id first (s ∷ rest) told above held (suc k) d within =
+    antecedents_below t id first rest told above (keep held) k d (omega arith)
+  where
+    keep : All (IsUnforgotten t.steps) (first ∷ s.antecedent.0 ∷ map (λ q. q.antecedent) (chain_of rest)) → All (IsUnforgotten t.steps) (first ∷ map (λ q. q.antecedent) (chain_of rest))
+    keep h zero e low = h 0 e (omega arith)
+    keep h (suc j) e low = h (suc (suc j)) e (omega arith)

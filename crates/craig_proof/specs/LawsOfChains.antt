@@ -1,9 +1,10 @@
 -- The laws of resolution chains.
-use Rattle.std.specs.Prelude.{◌≡◌, [], ◌∷◌, ◌++◌, ℕ, List, Option, Some, Contains, IsTrue}
+use Rattle.std.specs.Prelude.{◌≡◌, ◌<◌, [], ◌∷◌, ◌++◌, ℕ, List, Option, Some, Contains, IsTrue}
 use Rattle.craig_spec.specs.Literal.{Clause, Literal}
 use Rattle.craig_spec.specs.Truth.{Assignment, clause_value}
 use Rattle.craig_spec.specs.Occurs.{occurs_in_clause}
 use Rattle.craig_spec.specs.Chain.{ChainStep, Derived, IsResolvent, ChainOk, GivesSame, SameLiterals, antecedents}
+use Rattle.craig_spec.specs.PackedChain.{AreBefore, packed_chain}
 use Rattle.craig_base.specs.Clauses.{IsTautology}
 use Rattle.craig_proof.specs.Covers.{GivesSome}
 use Rattle.craig_proof.specs.Tracer.{chain_of}
@@ -40,3 +41,7 @@ ResolventsExtendChains = (f : ℕ → Option Clause) (literals : Clause) (first 
 -- the literals at the end of a chain may stand in any order
 abbrev pub ChainsInAnyOrder : Type 0
 ChainsInAnyOrder = (f : ℕ → Option Clause) (literals other : Clause) (first : ℕ) (rest : List ChainStep) → ChainOk f literals first rest → SameLiterals literals other → ChainOk f other first rest
+
+-- a packed chain can be read in one way only
+abbrev pub PackedChainsAreReadInOneWay : Type 0
+PackedChainsAreReadInOneWay = (id first other : ℕ) (rest more : List ChainStep) → first < id → other < id → AreBefore id rest → AreBefore id more → packed_chain id first rest ≡ packed_chain id other more → (first ≡ other) × (rest ≡ more)

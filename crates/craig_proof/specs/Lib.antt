@@ -5,6 +5,7 @@ pub mod LawsOfCovering
 pub mod LawsOfSteps
 pub mod Lent
 pub mod NeededSteps
+pub mod PackedSteps
 pub mod Pair
 pub mod StoredSteps
 pub mod Tracer

@@ -6,9 +6,13 @@ use Rattle.craig_spec.specs.Chain.{ChainStep, Original, Derived, ToldStep, Told,
 use Rattle.craig_spec.specs.Needed.{Reclaims}
 use Rattle.craig_proof.specs.declared.step.Step.{Step}
 
+-- one resolution of a chain
+abbrev pub chain_step : Step → ChainStep
+chain_step s = record { pivot = s.pivot; antecedent = s.antecedent.0 }
+
 -- the steps of a chain after its first antecedent
 abbrev pub chain_of : List Step → List ChainStep
-chain_of steps = map (λ s. record { pivot = s.pivot; antecedent = s.antecedent.0 }) steps
+chain_of steps = map chain_step steps
 
 -- the step of an original of the part
 abbrev pub original_step : ℕ → ℕ → Clause → ToldStep

@@ -3,18 +3,18 @@
 //! Kept steps stand in a list by rising id. What a root needs is found from the last needed step to the first, as proof
 //! checkers do since Goldberg and Novikov (DATE 2003), but by a set of ids in place of a mark a step.
 
-ghost use Rattle.std.specs.Prelude.{◌≡◌, Some, None, true, false, All, is_some, IfOk, OnOk, OnErr, IsErr};
+ghost use Rattle.std.specs.Prelude.{◌≡◌, ℕ, List, Some, None, true, false, All, is_some, IfOk, OnOk, OnErr, IsErr};
 ghost use Rattle.std.specs.Option.{ForSome, option_map};
 ghost use Rattle.craig_base.specs.Clauses.{IsNormal};
-ghost use Rattle.craig_spec.specs.Chain.{Told, IsTold, IsAbove, IsUnforgotten, ChainOk, Derived, antecedents, clause_told, nothing_told, with_step, without_id};
+ghost use Rattle.craig_spec.specs.Chain.{ChainStep, Told, IsTold, IsAbove, IsUnforgotten, ChainOk, Derived, antecedents, clause_told, nothing_told, with_step, without_id};
 ghost use Rattle.craig_spec.specs.Needed.{AllFollow, IsNeededPart, Reclaims};
-ghost use Rattle.craig_proof.specs.ChainStore.{IsReplayed};
+ghost use Rattle.craig_spec.specs.PackedChain.{packed_chain};
+ghost use Rattle.craig_proof.specs.ChainStore.{HasDerived, IsDerivedUnder, IsReplayed};
 ghost use Rattle.craig_proof.specs.Tracer.{chain_of, original_step, derived_step, Appends, AreUnforgotten, IsReclaimed, IsToldChain};
 
 use crate::finding::needed_steps;
-use crate::place::place_of;
 use crate::replay::tell_all;
-use crate::stored_step::{StoredOrigin, StoredStep};
+use crate::stored_steps::StoredSteps;
 use crate::{Needed, Step, Tracer};
 use craig_base::{ClauseId, Lit, Part};
 use std::alloc::{AllocError, Global};
@@ -26,7 +26,7 @@ use std::marker::Model;
 #[derive(Drop)]
 pub struct ChainStore {
     // by rising id
-    steps: Vec<StoredStep>,
+    steps: StoredSteps,
     // the last id that was told
     greatest: Option<ClauseId>,
     // whether a call wanted memory in vain
@@ -41,9 +41,9 @@ impl Model for ChainStore {
     ghost use Rattle.craig_spec.specs.Chain.{Told};
     ghost use Rattle.craig_proof.specs.StoredSteps.{IsStore, told_of};
 
-    ghost view = { λ s. record { told = told_of s.greatest s.steps.items; dead = s.dead } };
+    ghost view = { λ s. record { told = told_of s.greatest s.steps; dead = s.dead } };
 
-    ghost invariant = { λ s. IsStore (told_of s.greatest s.steps.items) };
+    ghost invariant = { λ s. IsStore (told_of s.greatest s.steps) };
 }
 
 impl ChainStore {
@@ -52,7 +52,7 @@ impl ChainStore {
         ensures { result ≡ record { told = nothing_told; dead = false } }
     {
         ChainStore {
-            steps: Vec::new(alloc),
+            steps: StoredSteps::new(alloc),
             greatest: None,
             dead: false,
         }
@@ -73,8 +73,9 @@ impl ChainStore {
         if self.dead {
             return Err(AllocError);
         }
-        let needed = needed_steps(*self.steps.allocator(), self.steps.as_slice(), root)?;
-        tell_all(needed.as_slice(), into)
+        let alloc = self.steps.allocator();
+        let needed = needed_steps(alloc, &self.steps, root)?;
+        tell_all(alloc, &self.steps, needed.as_slice(), into)
     }
 
     /// The steps that the root needs, lent one by one, for more than one walk over them. The root isn't forgotten. Memory
@@ -87,7 +88,18 @@ impl ChainStore {
         if self.dead {
             return Err(AllocError);
         }
-        Needed::of_root(*self.steps.allocator(), self.steps.as_slice(), root)
+        Needed::of_root(self.steps.allocator(), &self.steps, root)
+    }
+
+    /// The packed chain of a derived clause whose step is kept, lent as it lies: how far the first antecedent is before the
+    /// clause's id, and then for each resolution the number of its pivot and how far its antecedent is before that id. The
+    /// number of a pivot is twice its dense variable, and one more where it is negated. All are in groups of seven bits, the
+    /// lowest first, as few as do, with the top bit set in each byte but a number's last.
+    pub fn packed(&self, id: ClauseId) -> &[u8]
+        requires { HasDerived self.now.told.steps id.0 }
+        ensures { (first : ℕ) (rest : List ChainStep) → IsDerivedUnder self.now.told.steps id.0 first rest → result.now ≡ packed_chain id.0 first rest }
+    {
+        self.steps.packed(self.steps.place(id))
     }
 
     /// What was told is a list of steps by rising id, each on those before it, and each clause of it is true
@@ -119,14 +131,7 @@ impl Tracer for ChainStore {
             return Err(AllocError);
         }
         self.dead = true;
-        let literals = Vec::from_slice(*self.steps.allocator(), lits)?;
-        let source = StoredOrigin::Input(part);
-        self.steps.push(StoredStep {
-            id,
-            literals,
-            source,
-            forgotten: false,
-        })?;
+        self.steps.push_original(id, part, lits)?;
         self.greatest = Some(id);
         self.dead = false;
         Ok(())
@@ -153,15 +158,7 @@ impl Tracer for ChainStore {
             return Err(AllocError);
         }
         self.dead = true;
-        let literals = Vec::from_slice(*self.steps.allocator(), lits)?;
-        let chain = Vec::from_slice(*self.steps.allocator(), rest)?;
-        let source = StoredOrigin::Chain(first, chain);
-        self.steps.push(StoredStep {
-            id,
-            literals,
-            source,
-            forgotten: false,
-        })?;
+        self.steps.push_derived(id, lits, first, rest)?;
         self.greatest = Some(id);
         self.dead = false;
         Ok(())
@@ -172,8 +169,7 @@ impl Tracer for ChainStore {
         ensures told { Some self.new.told ≡ option_map (without_id id.0) (Some self.old.told) }
         ensures dead { self.new.dead ≡ self.old.dead }
     {
-        let place = place_of(self.steps.as_slice(), id);
-        self.steps[place].forgotten = true;
+        self.steps.forget(id);
     }
 
     fn reclaim(&mut self)

@@ -6,7 +6,7 @@ ghost use Rattle.craig_spec.specs.Literal.{Clause};
 ghost use Rattle.craig_spec.specs.Chain.{ToldStep, Told, IsAbove, IsTold, IsUnforgotten, StandsOn, ChainOk, clause_told, nothing_told, with_step, without_id};
 ghost use Rattle.craig_spec.specs.Needed.{AllFollow, IsNeededPart, Reclaims};
 ghost use Rattle.craig_proof.specs.Covers.{IsCovering};
-ghost use Rattle.craig_proof.specs.LawsOfChains.{ChainsOverSameClauses, ChainsAreSound, ChainsKeepFromTautologies, AntecedentsAreGiven, LiteralsAreOfAntecedents, VariablesAreOfAntecedents, ResolventsExtendChains, ChainsInAnyOrder};
+ghost use Rattle.craig_proof.specs.LawsOfChains.{PackedChainsAreReadInOneWay, ChainsOverSameClauses, ChainsAreSound, ChainsKeepFromTautologies, AntecedentsAreGiven, LiteralsAreOfAntecedents, VariablesAreOfAntecedents, ResolventsExtendChains, ChainsInAnyOrder};
 ghost use Rattle.craig_proof.specs.LawsOfCovering.{CoveredIdsAreUnforgotten, CoveredAntecedentsAreUnforgotten, CoveredChainsAreTold, NothingToldCoversNoClauses, FewerClausesAreCovered, OriginalsKeepCovering, DerivedClausesKeepCovering, ForgettingKeepsCovering, ReclaimingKeepsCovering};
 ghost use Rattle.craig_proof.specs.LawsOfSteps.{FoundClausesAreOfSteps, UnforgottenIdsAreOfSteps, PartsHaveNeededSteps, PartsHaveAllNeededSteps, PartsKeepClauses, PartsEndInTheRoot, PartsKeepTheRoot};
 
@@ -96,4 +96,9 @@ pub fn covering_is_kept()
     ensures derived { DerivedClausesKeepCovering }
     ensures forgotten { ForgettingKeepsCovering }
     ensures reclaimed { ReclaimingKeepsCovering }
+{}
+
+/// Two chains of clauses under one id that are packed into the same bytes are one chain.
+pub fn packed_chains_are_read_in_one_way()
+    ensures { PackedChainsAreReadInOneWay }
 {}

@@ -7,6 +7,7 @@ pub mod AigerOrderLemmas
 pub mod AigerMovedLemmas
 pub mod AigerFileLemmas
 pub mod SevenBitsLemmas
+pub mod PackedChainLemmas
 pub mod AigerBinaryLemmas
 pub mod TextWordLemmas
 pub mod VariableLemmas

@@ -8,6 +8,7 @@ pub mod Circuit
 pub mod AigerFault
 pub mod AigerReading
 pub mod SevenBits
+pub mod PackedChain
 pub mod AigerBinary
 pub mod Cut
 pub mod FailedAssumptions

@@ -1,6 +1,5 @@
 use Rattle.std.proofs.Common.{◌<◌, length}
 use Rattle.std.proofs.lemmas.Result.{IfOk-weaker}
-use Rattle.craig_proof.specs.Tracer.{chain_of}
 use Rattle.craig_system.specs.Rules.{labelling}
 use Rattle.craig_system.proofs.ResultLemmas.{IfOk-both}
 use Rattle.craig_itp.specs.StepEdges.{IsLeafEdge}
@@ -10,11 +9,11 @@ use Rattle.craig_itp.proofs.walk.edge_at.Goals as goal
 
 pub edge_of_chain-requires-clause-first : goal.edge_of_chain-requires-clause-first
 edge_of_chain-requires-clause-first g c =
-    let s = c.in-Derived.ensures in first_before c.args.needed.now c.args.root.0 _ s.0 c.requires.ends.told s.1 c.in-Derived.first.0 c.in-Derived.rest.now s.2
+    let s = c.in-Derived.ensures in first_before c.args.needed.now c.args.root.0 _ s.0 c.requires.ends.told s.1 c.in-Derived.first.0 c.in-Derived.rest s.2
 
 pub edge_of_chain-requires-clause-rest : goal.edge_of_chain-requires-clause-rest
 edge_of_chain-requires-clause-rest g c =
-    let s = c.in-Derived.ensures in rest_before c.args.needed.now c.args.root.0 _ s.0 c.requires.ends.told s.1 c.in-Derived.first.0 c.in-Derived.rest.now s.2
+    let s = c.in-Derived.ensures in rest_before c.args.needed.now c.args.root.0 _ s.0 c.requires.ends.told s.1 c.in-Derived.first.0 c.in-Derived.rest s.2
 
 pub returns-in-Original-clause-edge : goal.returns-in-Original-clause-edge
 returns-in-Original-clause-edge g c =
@@ -33,6 +32,6 @@ returns-in-Derived-clause-edge g c =
     let part = c.args.needed.now in
     let new = c.edge_of_chain.new.aig in
     let found = c.in-Derived.ensures in
-    IfOk-weaker c.edge_of_chain.result (IsEdgeOfChain l part c.in-Derived.first.0 (chain_of c.in-Derived.rest.now) new) (IsEdgeAt l part (length c.args.edges.now) new)
-    (λ e h s at. one_at l part (length c.args.edges.now) new e found.0 s found.1 at (IsEdgeOf-chain l part c.args.root.0 (length c.args.edges.now) found.0 c.requires.ends.told found.1 new e c.in-Derived.first.0 (chain_of c.in-Derived.rest.now) found.2 h))
+    IfOk-weaker c.edge_of_chain.result (IsEdgeOfChain l part c.in-Derived.first.0 c.in-Derived.rest new) (IsEdgeAt l part (length c.args.edges.now) new)
+    (λ e h s at. one_at l part (length c.args.edges.now) new e found.0 s found.1 at (IsEdgeOf-chain l part c.args.root.0 (length c.args.edges.now) found.0 c.requires.ends.told found.1 new e c.in-Derived.first.0 c.in-Derived.rest found.2 h))
     c.edge_of_chain.ensures.chain

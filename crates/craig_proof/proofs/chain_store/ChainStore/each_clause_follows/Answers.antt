@@ -7,4 +7,4 @@ returns-clause-told c = rw (← c.self.view_is) c.self.invariant.told
 
 pub returns-clause-follows : goal.returns-clause-follows
 returns-clause-follows c =
-    rw (← c.self.view_is) (AllFollow-told (told_of c.self.inside.greatest c.self.inside.steps.items) c.self.invariant.told)
+    rw (← c.self.view_is) (AllFollow-told (told_of c.self.inside.greatest c.self.inside.steps) c.self.invariant.told)

@@ -1,40 +1,21 @@
 use Rattle.std.proofs.Common.{refl}
-use Rattle.std.proofs.lemmas.List.{map-append}
-use Rattle.std.proofs.lemmas.Result.{IfOk-from_err}
 use Rattle.craig_spec.specs.Chain.{IsAbove}
 use Rattle.craig_proof.specs.StoredSteps.{told_of}
-use Rattle.craig_proof.proofs.ToldLemmas.{IsStore-with_step}
+use Rattle.craig_proof.proofs.ToldLemmas.{IsStore-with_step, antecedents_below, first_below}
 use Rattle.craig_proof.proofs.chain_store.ChainStoreTracer.derived.Goals as goal
+
+pub push_derived-requires-clause-first : goal.push_derived-requires-clause-first
+push_derived-requires-clause-first c =
+    let above : IsAbove (told_of c.self.inside.greatest c.self.inside.steps) c.args.id.0 = rw (← c.self.view_is) at (c.requires.above c.args.self.now.told refl) in
+    first_below _ c.args.id.0 c.args.first.0 c.args.rest.now c.self.invariant.told above (rw (← c.self.view_is) at (c.requires.unforgotten c.args.self.now.told refl))
+
+pub push_derived-requires-clause-rest : goal.push_derived-requires-clause-rest
+push_derived-requires-clause-rest c =
+    let above : IsAbove (told_of c.self.inside.greatest c.self.inside.steps) c.args.id.0 = rw (← c.self.view_is) at (c.requires.above c.args.self.now.told refl) in
+    antecedents_below _ c.args.id.0 c.args.first.0 c.args.rest.now c.self.invariant.told above (rw (← c.self.view_is) at (c.requires.unforgotten c.args.self.now.told refl))
 
 pub invariant_of-self-2 : goal.invariant_of-self-2
 invariant_of-self-2 c =
-    let above : IsAbove (told_of c.self.inside.greatest c.self.inside.steps.items) c.args.id.0 = rw (← c.self.view_is) at (c.requires.above c.args.self.now.told refl) in
+    let above : IsAbove (told_of c.self.inside.greatest c.self.inside.steps) c.args.id.0 = rw (← c.self.view_is) at (c.requires.above c.args.self.now.told refl) in
     let chain = rw (← c.self.view_is) at (c.requires.chain c.args.self.now.told refl) in
-    rw (c.in_ok-push.ensures.items, map-append) (IsStore-with_step (told_of c.self.inside.greatest c.self.inside.steps.items) _ c.self.invariant above (rw (c.in_ok-literals.ensures.items, c.in_ok-chain.ensures.items) chain) (λ no. absurd no))
-
-pub returns-in_err-literals-clause-told : goal.returns-in_err-literals-clause-told
-returns-in_err-literals-clause-told c = IfOk-from_err _ _ c.from_residual.ensures.0
-
-pub returns-in_err-literals-clause-alive : goal.returns-in_err-literals-clause-alive
-returns-in_err-literals-clause-alive c = IfOk-from_err _ _ c.from_residual.ensures.0
-
-pub returns-in_err-literals-clause-refused : goal.returns-in_err-literals-clause-refused
-returns-in_err-literals-clause-refused c = λ _. c.from_residual.ensures.0
-
-pub returns-in_err-chain-clause-told : goal.returns-in_err-chain-clause-told
-returns-in_err-chain-clause-told c = IfOk-from_err _ _ c.from_residual-in_err-chain.ensures.0
-
-pub returns-in_err-chain-clause-alive : goal.returns-in_err-chain-clause-alive
-returns-in_err-chain-clause-alive c = IfOk-from_err _ _ c.from_residual-in_err-chain.ensures.0
-
-pub returns-in_err-chain-clause-refused : goal.returns-in_err-chain-clause-refused
-returns-in_err-chain-clause-refused c = λ _. c.from_residual-in_err-chain.ensures.0
-
-pub returns-in_err-push-clause-told : goal.returns-in_err-push-clause-told
-returns-in_err-push-clause-told c = IfOk-from_err _ _ c.from_residual-in_err-push.ensures.0
-
-pub returns-in_err-push-clause-alive : goal.returns-in_err-push-clause-alive
-returns-in_err-push-clause-alive c = IfOk-from_err _ _ c.from_residual-in_err-push.ensures.0
-
-pub returns-in_err-push-clause-refused : goal.returns-in_err-push-clause-refused
-returns-in_err-push-clause-refused c = λ _. c.from_residual-in_err-push.ensures.0
+    rw c.in_ok-push_derived.ensures.pushed (IsStore-with_step (told_of c.self.inside.greatest c.self.inside.steps) _ c.self.invariant above chain (λ no. absurd no))

@@ -1,6 +1,4 @@
 use Rattle.std.proofs.Common.{refl}
-use Rattle.std.proofs.lemmas.List.{map-append}
-use Rattle.std.proofs.lemmas.Result.{IfOk-from_err}
 use Rattle.craig_spec.specs.Chain.{IsAbove}
 use Rattle.craig_proof.specs.StoredSteps.{told_of}
 use Rattle.craig_proof.proofs.ToldLemmas.{IsStore-with_step}
@@ -8,23 +6,5 @@ use Rattle.craig_proof.proofs.chain_store.ChainStoreTracer.original.Goals as goa
 
 pub invariant_of-self-2 : goal.invariant_of-self-2
 invariant_of-self-2 c =
-    let above : IsAbove (told_of c.self.inside.greatest c.self.inside.steps.items) c.args.id.0 = rw (← c.self.view_is) at (c.requires.above c.args.self.now.told refl) in
-    rw (c.in_ok-push.ensures.items, map-append) (IsStore-with_step (told_of c.self.inside.greatest c.self.inside.steps.items) _ c.self.invariant above tt (λ _. rw c.in_ok-literals.ensures.items c.requires.normal))
-
-pub returns-in_err-literals-clause-told : goal.returns-in_err-literals-clause-told
-returns-in_err-literals-clause-told c = IfOk-from_err _ _ c.from_residual.ensures.0
-
-pub returns-in_err-literals-clause-alive : goal.returns-in_err-literals-clause-alive
-returns-in_err-literals-clause-alive c = IfOk-from_err _ _ c.from_residual.ensures.0
-
-pub returns-in_err-literals-clause-refused : goal.returns-in_err-literals-clause-refused
-returns-in_err-literals-clause-refused c = λ _. c.from_residual.ensures.0
-
-pub returns-in_err-push-clause-told : goal.returns-in_err-push-clause-told
-returns-in_err-push-clause-told c = IfOk-from_err _ _ c.from_residual-in_err-push.ensures.0
-
-pub returns-in_err-push-clause-alive : goal.returns-in_err-push-clause-alive
-returns-in_err-push-clause-alive c = IfOk-from_err _ _ c.from_residual-in_err-push.ensures.0
-
-pub returns-in_err-push-clause-refused : goal.returns-in_err-push-clause-refused
-returns-in_err-push-clause-refused c = λ _. c.from_residual-in_err-push.ensures.0
+    let above : IsAbove (told_of c.self.inside.greatest c.self.inside.steps) c.args.id.0 = rw (← c.self.view_is) at (c.requires.above c.args.self.now.told refl) in
+    rw c.in_ok-push_original.ensures.pushed (IsStore-with_step (told_of c.self.inside.greatest c.self.inside.steps) _ c.self.invariant above tt (λ _. c.requires.normal))

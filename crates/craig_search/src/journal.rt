@@ -19,7 +19,7 @@ pub struct Journal {
     literals: Vec<Lit>,
     // where the literals of each clause end, rising
     ends: Vec<usize>,
-    // those of all clauses
+    // those of all clauses, and of others that were learnt
     fingerprints: BTreeSet<u64>,
 }
 
@@ -60,7 +60,15 @@ impl Journal {
         Ok(())
     }
 
-    /// Whether a clause may have these literals in any order. Where one has, it is so; mostly it isn't where none has.
+    /// Keeps the fingerprint of a clause that is not listed.
+    pub(crate) fn keep_fingerprint(&mut self, lits: &[Lit]) -> Result<(), AllocError>
+        ensures { self.new ≡ self.old }
+    {
+        note(&mut self.fingerprints, fingerprint(lits))
+    }
+
+    /// Whether a clause may have these literals in any order. Where one has, it is so; mostly it isn't where none has that
+    /// was listed or whose fingerprint was kept.
     pub(crate) fn may_have(&self, lits: &[Lit]) -> bool
         ensures { MarksRepeat self.now lits.now result }
     {

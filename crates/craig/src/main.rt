@@ -17,6 +17,10 @@ fn main(rt: HostRuntime) -> ExitCode {
         }
         Err(status) => status,
     };
+    if let Some(message) = status.message() {
+        // A run that stopped has its status also where standard error is gone.
+        let _ = rt.eprintln(message);
+    }
     ExitCode::from(status.number())
 }
 

@@ -508,3 +508,33 @@ fn a_generated_script_has_a_summary_and_a_reply(rt: HostRuntime) -> Result<(), F
     }
     Ok(())
 }
+
+#[test]
+fn a_status_has_its_line(rt: HostRuntime) {
+    let rows: [(Status, &str); 5] = [
+        (
+            Status::Usage,
+            "usage: craig [--system WORD] [--format WORD] [--limit N|none] [--gen N]",
+        ),
+        (
+            Status::ReadFault,
+            "craig: a read failed; the replies to the lines before it stand",
+        ),
+        (
+            Status::WriteFault,
+            "craig: a write failed; the replies before it stand",
+        ),
+        (
+            Status::TooLong,
+            "craig: the script has 4294967296 bytes or more; the replies so far stand",
+        ),
+        (
+            Status::NoMemory,
+            "craig: memory ran out; the replies so far stand",
+        ),
+    ];
+    let said = rows
+        .iter()
+        .all(|(status, line)| status.message() == Some(*line));
+    assert!(rt; said);
+}

@@ -1,6 +1,6 @@
 //! How a run ends.
 
-ghost use Rattle.std.specs.Prelude.{◌≡◌};
+ghost use Rattle.std.specs.Prelude.{◌≡◌, ◌↔◌, IsNone};
 ghost use Rattle.craig_top.specs.Statuses.{status_number};
 
 /// How a run of the program ends.
@@ -32,6 +32,26 @@ impl Status {
             Status::WriteFault => 3,
             Status::TooLong => 4,
             Status::NoMemory => 5,
+        }
+    }
+    /// What the program puts to standard error, as a line: how the run ended, or how the program is called. There is
+    /// none where the run is done.
+    pub fn message(self) -> Option<&'static str>
+        ensures { IsNone result ↔ (self ≡ Status.Done) }
+    {
+        match self {
+            Status::Done => None,
+            Status::Usage => Some(
+                "usage: craig [--system WORD] [--format WORD] [--limit N|none] [--gen N]",
+            ),
+            Status::ReadFault => {
+                Some("craig: a read failed; the replies to the lines before it stand")
+            }
+            Status::WriteFault => Some("craig: a write failed; the replies before it stand"),
+            Status::TooLong => Some(
+                "craig: the script has 4294967296 bytes or more; the replies so far stand",
+            ),
+            Status::NoMemory => Some("craig: memory ran out; the replies so far stand"),
         }
     }
 }

@@ -230,3 +230,43 @@ fn a_clause_of_two_literals_or_more_is_watched_by_its_first_two(
     assert!(rt; are_watched(&mut Held::new(rt.alloc()))?);
     Ok(())
 }
+
+/// Holds the unit clause of a literal that is true at level 0, and makes it the reason of the literal.
+fn hold_unit(held: &mut Held, lit: Lit) -> Result<bool, AllocError>
+    requires { lit.var < held.old.vars }
+    ensures { held.new.vars ≡ held.old.vars }
+{
+    if held.value(lit) != Value::True || held.level() != 0 {
+        return Ok(false);
+    }
+    let id = held.hold(&[lit], FLAGS)?;
+    held.set_reason(lit, id);
+    Ok(true)
+}
+
+/// Whether a literal that a clause of two forced has its unit clause as its reason, and else all is as before.
+fn has_another_reason(held: &mut Held) -> Result<bool, AllocError>
+    requires { held.old ≡ nothing_held }
+{
+    let v0 = Lit::new(Var(0), false);
+    let v1 = Lit::new(Var(1), false);
+    held.grow(2)?;
+    held.hold(&[v0], FLAGS)?;
+    held.hold(&[v0.not(), v1], FLAGS)?;
+    let None = held.propagate()? else {
+        return Ok(false);
+    };
+    let forced = entry(held, v1) == Some((Some(ClauseId(1)), 0, 1));
+    if !hold_unit(held, v1)? {
+        return Ok(false);
+    }
+    let rests = entry(held, v1) == Some((Some(ClauseId(2)), 0, 1));
+    let other = entry(held, v0) == Some((Some(ClauseId(0)), 0, 0));
+    Ok(forced && rests && other)
+}
+
+#[test]
+fn a_unit_clause_becomes_the_reason(rt: HostRuntime) -> Result<(), Fail> {
+    assert!(rt; has_another_reason(&mut Held::new(rt.alloc()))?);
+    Ok(())
+}

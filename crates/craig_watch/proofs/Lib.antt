@@ -6,6 +6,8 @@ pub mod PlacesLemmas
 pub mod LevelsLemmas
 pub mod AssignmentLemmas
 mod AssignedLemmas
+pub mod ReasonLemmas
+mod RestedLemmas
 mod WatchesLemmas
 mod SettledLemmas
 mod SwapLemmas
@@ -17,6 +19,7 @@ mod VisitLemmas
 mod LookLemmas
 mod PropagateLemmas
 mod KeepingLemmas
+mod RestingLemmas
 mod GoneLemmas
 mod SweptLemmas
 mod CameLemmas

@@ -3,6 +3,7 @@ use Rattle.std.specs.Prelude.{◌≡◌, ◌≢◌, ℕ, suc, ◌<◌, false, no
 use Rattle.std.specs.Option.{option_map_or}
 use Rattle.craig_spec.specs.Literal.{Literal}
 use Rattle.craig_spec.specs.Truth.{Assignment}
+use Rattle.craig_base.specs.declared.clause_id.ClauseId.{ClauseId}
 use Rattle.craig_watch.specs.declared.trail_entry.TrailEntry.{TrailEntry}
 use Rattle.craig_watch.specs.declared.value.Value.{Value}
 use Rattle.craig_watch.specs.declared.value.Value.TheVariants.{True, False, Free}
@@ -61,3 +62,11 @@ level_at t l = option_map_or (λ e. e.level) (entry_of t l.var) 0
 -- the variables that the trail makes true
 abbrev pub assignment_of : Trail → Assignment
 assignment_of t = map (λ e. e.literal.var) (filter (λ e. not e.literal.negated) t)
+
+-- the entry, with the clause of the id as its reason where it is that of the variable
+abbrev pub rested : ℕ → ClauseId → TrailEntry → TrailEntry
+rested v id e = record e { reason = if nat_eq e.literal.var v then Some id else e.reason }
+
+-- the trail, with the clause of the id as the reason of the variable
+abbrev pub with_reason : ℕ → ClauseId → Trail → Trail
+with_reason v id t = map (rested v id) t

@@ -1,7 +1,7 @@
 //! The literals that are assigned, and the tables by which they are looked up.
 ghost use Rattle.std.specs.Prelude.{◌≡◌, ◌<◌, ◌≤◌, ◌++◌, [], ◌∷◌, Some, OnOk, OnErr, length, map, slice_get, if◌then◌else◌};
 ghost use Rattle.std.specs.Option.{option_map};
-ghost use Rattle.craig_watch.specs.Trail.{IsAssigned, decisions, entry_of, part_up_to, value_under};
+ghost use Rattle.craig_watch.specs.Trail.{IsAssigned, decisions, entry_of, part_up_to, value_under, with_reason};
 ghost use Rattle.craig_watch.specs.Assigned.{IsTrail, TakesLast};
 ghost use Rattle.craig_watch.specs.declared.value.Value.TheVariants.{Free};
 
@@ -113,6 +113,16 @@ impl Assigned {
         while self.level() > level {
             self.take_last();
         }
+    }
+
+    /// Makes a clause the reason of a variable that is assigned, where nothing is decided.
+    pub fn set_reason(&mut self, var: Var, id: ClauseId)
+        requires assigned { IsAssigned self.old.trail var.0 }
+        requires level { decisions self.old.trail ≡ 0 }
+        ensures rests { self.new ≡ record self.old { trail = with_reason var.0 id self.old.trail } }
+        ensures is_trail { IsTrail self.new.vars self.new.trail }
+    {
+        self.assignments[var.0 as usize].reason = Some(id);
     }
 
     /// The present decision level, 0 before the first decision.

@@ -3,14 +3,14 @@
 //! A trail of literals with decision levels and reasons is that of Marques-Silva and Sakallah, "GRASP", IEEE
 //! Transactions on Computers 48, 1999, and its stack of assigned literals that of Eén and Sörensson, "An Extensible
 //! SAT-solver", SAT 2003.
-ghost use Rattle.std.specs.Prelude.{◌≡◌, ◌≢◌, ◌<◌, ◌≤◌, false, true, Some, None, ℕ, All, AllPairs, IfOk, IfSome, OnOk, OnErr, IsErr, length, map, max, nat_lt, slice_get};
+ghost use Rattle.std.specs.Prelude.{◌≡◌, ◌≢◌, ◌<◌, ◌≤◌, [], ◌∷◌, false, true, Some, None, ℕ, All, AllPairs, IfOk, IfSome, OnOk, OnErr, IsErr, length, map, max, nat_lt, slice_get};
 ghost use Rattle.std.specs.Option.{option_map};
 ghost use Rattle.craig_base.specs.Arena.{IsLive, ChangesClause, ChangesOnly, changed, clause_at, with_id, without};
 ghost use Rattle.craig_base.specs.Clauses.{IsNormal};
-ghost use Rattle.craig_watch.specs.Trail.{IsAssigned, entry_of, part_up_to, value_under};
-ghost use Rattle.craig_watch.specs.Held.{IsComplete, IsConsistent, IsFalsified, IsLengthened, IsRefused, MayBeHeld, nothing_held, with_decision, with_held};
+ghost use Rattle.craig_watch.specs.Trail.{IsAssigned, entry_of, part_up_to, value_under, with_reason};
+ghost use Rattle.craig_watch.specs.Held.{IsComplete, IsConsistent, IsFalsified, IsLengthened, IsRefused, MayBeHeld, held_clause, nothing_held, with_decision, with_held};
 ghost use Rattle.craig_watch.specs.Watches.{AreWatchers, without_all};
-ghost use Rattle.craig_watch.specs.declared.value.Value.TheVariants.{Free};
+ghost use Rattle.craig_watch.specs.declared.value.Value.TheVariants.{Free, True};
 
 use crate::value::Value;
 use crate::watched::Watched;
@@ -175,6 +175,18 @@ impl Held {
         ensures consistent { IsConsistent self.new }
     {
         self.watched.back_to(level);
+    }
+
+    /// Makes the held unit clause of a true literal its reason, at level 0. The clause that was its reason before may be
+    /// let go then.
+    pub fn set_reason(&mut self, lit: Lit, id: ClauseId)
+        requires level { self.old.level ≡ 0 }
+        requires true_literal { value_under self.old.trail lit ≡ True }
+        requires unit { held_clause self.old.arena id.0 ≡ Some (lit ∷ []) }
+        ensures rests { self.new ≡ record self.old { trail = with_reason lit.var id self.old.trail } }
+        ensures consistent { IsConsistent self.new }
+    {
+        self.watched.set_reason(lit, id);
     }
 
     /// What the trail says of a literal of a known variable.

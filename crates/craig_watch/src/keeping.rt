@@ -1,14 +1,14 @@
 //! Clauses come and go under a trail, which is lengthened by decisions and goes back.
-ghost use Rattle.std.specs.Prelude.{◌≡◌, ◌≢◌, ◌+◌, ◌<◌, ◌≤◌, Some, None, ℕ, All, AllPairs, IfOk, OnErr, OnOk, length};
+ghost use Rattle.std.specs.Prelude.{◌≡◌, ◌≢◌, ◌+◌, ◌<◌, ◌≤◌, [], ◌∷◌, Some, None, ℕ, All, AllPairs, IfOk, OnErr, OnOk, length};
 ghost use Rattle.craig_spec.specs.Literal.{Literal};
 ghost use Rattle.craig_base.specs.Literals.{literal_code};
 ghost use Rattle.craig_watch.specs.Watches.{WatchesBoth, beside_for, list_of, without_all};
 ghost use Rattle.craig_base.specs.Arena.{ChangesClause, ChangesOnly, IsArena, IsLive, changed, clause_at, without};
 ghost use Rattle.craig_base.specs.Clauses.{IsNormal};
-ghost use Rattle.craig_watch.specs.Trail.{decisions, part_up_to, value_under};
-ghost use Rattle.craig_watch.specs.Held.{IsComplete, MayBeHeld, nothing_held, with_decision, with_held};
+ghost use Rattle.craig_watch.specs.Trail.{decisions, part_up_to, value_under, with_reason};
+ghost use Rattle.craig_watch.specs.Held.{IsComplete, MayBeHeld, held_clause, nothing_held, with_decision, with_held};
 ghost use Rattle.craig_watch.specs.WatchedState.{IsSound, shown};
-ghost use Rattle.craig_watch.specs.declared.value.Value.TheVariants.{Free};
+ghost use Rattle.craig_watch.specs.declared.value.Value.TheVariants.{Free, True};
 
 use crate::assigned::Assigned;
 use crate::beside::Beside;
@@ -203,6 +203,18 @@ impl Watched {
             level,
             reason: None,
         });
+    }
+
+    /// Makes the held unit clause of a true literal its reason, where nothing is decided.
+    pub fn set_reason(&mut self, literal: Lit, id: ClauseId)
+        requires sound { IsSound self.old }
+        requires level { decisions self.old.assigned.trail ≡ 0 }
+        requires true_literal { value_under self.old.assigned.trail literal ≡ True }
+        requires unit { held_clause self.old.arena id.0 ≡ Some (literal ∷ []) }
+        ensures rests { shown self.new ≡ record (shown self.old) { trail = with_reason literal.var id self.old.assigned.trail } }
+        ensures sound { IsSound self.new }
+    {
+        self.assigned.set_reason(literal.var(), id);
     }
 
     /// Goes back to a level that is not above the present one.

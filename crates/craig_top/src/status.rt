@@ -34,6 +34,7 @@ impl Status {
             Status::NoMemory => 5,
         }
     }
+
     /// What the program puts to standard error, as a line: how the run ended, or how the program is called. There is
     /// none where the run is done.
     pub fn message(self) -> Option<&'static str>

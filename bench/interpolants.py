@@ -14,14 +14,13 @@ prints figures to compare in one run.
 """
 
 import argparse
-import itertools
 import os
 import random
 import resource
 import sys
 import tempfile
 
-import search
+import clause_lists
 
 
 def chain(parts):
@@ -32,7 +31,7 @@ def chain(parts):
 
 def counter(steps):
     """The unrolled counter with a step in each part, and the end in the last one."""
-    clauses = search.counter(steps)[0]
+    clauses = clause_lists.counter(steps)
     start, each = 7, 46
     placed = [(1, clause) for clause in clauses[:start]]
     for step in range(steps):
@@ -40,46 +39,14 @@ def counter(steps):
     return steps + 1, placed + [(steps + 1, clause) for clause in clauses[start + each * steps:]]
 
 
-class Gates:
-    """Clauses of gates, each clause in the part that is set when its gate is made."""
-
-    def __init__(self, inputs):
-        self.last, self.part, self.placed = inputs, 1, []
-
-    def gate(self, function, operands):
-        """A new variable with the value of the function of the operands."""
-        self.last += 1
-        for values in itertools.product((False, True), repeat=len(operands)):
-            rest = [-operand if value else operand for operand, value in zip(operands, values)]
-            self.placed.append((self.part, rest + [self.last if function(*values) else -self.last]))
-        return self.last
-
-    def product(self, left, right):
-        """The bits of a product, the lowest first, with the partial products of each bit of the right in a part of its own."""
-        total = [self.gate(lambda a, b: a and b, [bit, right[0]]) for bit in left]
-        done = []
-        for factor in right[1:]:
-            self.part += 1
-            done.append(total.pop(0))
-            row = [self.gate(lambda a, b: a and b, [bit, factor]) for bit in left]
-            carry = self.gate(lambda a: False, [row[0]])
-            total.append(carry)
-            summed = []
-            for one, other in zip(total, row):
-                summed.append(self.gate(lambda a, b, c: (a + b + c) % 2 == 1, [one, other, carry]))
-                carry = self.gate(lambda a, b, c: a + b + c > 1, [one, other, carry])
-            total = summed + [carry]
-        return done + total
-
-
 def multipliers(bits):
     """Two products of the same numbers, the second with the factors exchanged, which differ in some bit."""
     left, right = list(range(1, bits + 1)), list(range(bits + 1, 2 * bits + 1))
-    gates = Gates(2 * bits)
+    gates = clause_lists.Gates(2 * bits)
     first = gates.product(left, right)
     gates.part += 1
     second = gates.product(right, left)
-    differ = [gates.gate(lambda a, b: a != b, [one, other]) for one, other in zip(first, second)]
+    differ = [gates.gate(clause_lists.XOR, [one, other]) for one, other in zip(first, second)]
     return gates.part, gates.placed + [(gates.part, differ)]
 
 

@@ -22,6 +22,7 @@ pub mod AsReadLemmas
 pub mod RisingCutsLemmas
 pub mod TranscriptLemmas
 pub mod FaultsLemmas
+pub mod GatheredLemmas
 pub mod PutsLemmas
 pub mod RunLemmas
 pub mod GeneratedRunLemmas

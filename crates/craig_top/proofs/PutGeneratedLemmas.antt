@@ -1,21 +1,20 @@
 -- What the summary of a generated script says, and which text a run of it has put.
 use Rattle.std.proofs.Common.{◌≡◌, ◌∙◌, sym, ap, subst, refl, inl, inr, ℕ, zero, suc, ◌+◌, ◌*◌, ◌≤◌, max, Bool, true, false, cond, List, [], ◌∷◌, ◌++◌, length, map, Contains, codes, Option, Some, ℤ, unsigned_abs, append_assoc, append-nil, arith}
 use Rattle.std.specs.Fmt.{decimal}
-use Rattle.std.specs.List.{count_by, flat_map, list_all, range_with_len}
+use Rattle.std.specs.List.{count_by, flat_map, list_all}
 use Rattle.std.proofs.lemmas.Bool.{and_parts}
 use Rattle.std.proofs.lemmas.List.{map-append}
 use Rattle.std.proofs.lemmas.List.Folds.{list_all-append}
 use Rattle.std.proofs.lemmas.List.FromFn.{length-range_with_len}
 use Rattle.std.proofs.lemmas.List.Recursion.{is_count_by}
-use Rattle.craig_spec.specs.Cut.{PartClause, all_cuts}
+use Rattle.craig_spec.specs.Cut.{PartClause}
 use Rattle.craig_spec.specs.DimacsText.{greatest_of_clause, greatest_of_clauses}
-use Rattle.craig_spec.specs.Literal.{Clause}
 use Rattle.craig_script.specs.declared.command.Command.{Command}
 use Rattle.craig_script.specs.declared.command.Command.TheVariants.{Nothing, Parts, Add, System, Mark, Cuts, Limit, Format, Solve}
 use Rattle.craig_script.specs.Generator.{adds_clause, generated}
 use Rattle.craig_script.specs.Reading.{variables_named}
 use Rattle.craig_top.specs.Formats.{greatest_named}
-use Rattle.craig_top.specs.GeneratedRun.{GeneratedPromise, GeneratedReply, clause_added, summary_line, summary_text, with_generated}
+use Rattle.craig_top.specs.GeneratedRun.{GeneratedPromise, clause_added, summary_line, summary_text, with_generated}
 use Rattle.craig_top.specs.GivenState.{script_literal}
 use Rattle.craig_top.specs.Named.{bare_clauses}
 use Rattle.craig_top.specs.PutGenerated.{IsFrontOfSummaryAndReply, IsSummary, IsSummaryAndReply, counted, counting_lines}

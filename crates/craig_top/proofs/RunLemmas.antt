@@ -1,5 +1,5 @@
 -- How far a run has come, read by read, and how it may end.
-use Rattle.std.proofs.Common.{◌≡◌, ◌∙◌, ◌≤◌, ◌<◌, ◌+◌, length-append, sym, ap, subst, List, ℕ, zero, suc, [], ◌∷◌, ◌++◌, refl, length, take, drop, inl, inr, Option, Some, map, Ok, Err, arith}
+use Rattle.std.proofs.Common.{◌≡◌, ◌∙◌, ◌≤◌, ◌<◌, ◌+◌, length-append, sym, ap, subst, List, ℕ, zero, suc, [], ◌++◌, refl, length, take, drop, inl, inr, Option, Some, map, Ok, Err, arith}
 use Rattle.std.proofs.lemmas.List.{append_assoc, append-nil, take-append-drop, map-append}
 use Rattle.craig_io.specs.ToldBytes.{StaysTold}
 use Rattle.craig_io.specs.Source.{TakesFirst}
@@ -11,7 +11,6 @@ use Rattle.craig_top.specs.declared.status.Status.TheVariants as status
 use Rattle.craig_top.specs.declared.run.Stop.{Stop}
 use Rattle.craig_top.specs.declared.run.Stop.TheVariants as stop
 use Rattle.craig_top.specs.GivenState.{State, start, after}
-use Rattle.craig_top.specs.Reply.{Reply}
 use Rattle.craig_top.specs.Transcript.{Transcript, BeginsTranscript, BreaksOff}
 use Rattle.craig_top.specs.Emptied.{emptied}
 use Rattle.craig_top.specs.Ending.{whole, Promise, EndsDone}
@@ -19,33 +18,7 @@ use Rattle.craig_top.specs.declared.status.Status.{Status}
 use Rattle.craig_top.specs.Puts.{Puts, Stopped}
 use Rattle.craig_top.specs.StopStatus.{status_of}
 use Rattle.craig_top.specs.Progress.{Progress, StepLeaves}
-use Rattle.craig_top.proofs.TranscriptLemmas.{after-append, Transcript-append}
-
--- ---- transcripts that stop
-
-BeginsTranscript-after : (state : State) (a lines more : List Line) (s t : List ℕ) → Transcript state a s → BeginsTranscript (after state a) lines t → BeginsTranscript state ((a ++ lines) ++ more) (s ++ t)
-BeginsTranscript-after state a lines more s t p b =
-    (a ++ b.0, b.1 ++ more, ap (λ ls. (a ++ ls) ++ more) b.2 ∙ regrouped a b.0 b.1 more, Transcript-append state a b.0 s t p b.3)
-  where
-    regrouped : (x y z w : List Line) → (x ++ (y ++ z)) ++ w ≡ (x ++ y) ++ (z ++ w)
-    regrouped x y z w = simp append_assoc
-
-BreaksOff-after : (state : State) (a lines more : List Line) (s t : List ℕ) → Transcript state a s → BreaksOff (after state a) lines t → BreaksOff state ((a ++ lines) ++ more) (s ++ t)
-BreaksOff-after state a lines more s t p b = (
-  a ++ b.0,
-  b.1,
-  b.2 ++ more,
-  ap (λ ls. (a ++ ls) ++ more) b.3 ∙ regrouped a b.0 (b.1 ∷ b.2) more,
-  s ++ b.4,
-  Transcript-append state a b.0 s b.4 p b.5,
-  b.6,
-  b.7,
-  subst (λ (st : State). Reply st b.1 (b.6 ++ b.7)) (sym (after-append state a b.0)) b.8,
-  ap (λ z. s ++ z) b.9 ∙ sym (append_assoc s b.4 b.6),
-)
-  where
-    regrouped : (x y z w : List Line) → (x ++ (y ++ z)) ++ w ≡ (x ++ y) ++ (z ++ w)
-    regrouped x y z w = simp append_assoc
+use Rattle.craig_top.proofs.TranscriptLemmas.{after-append, BeginsTranscript-after, BreaksOff-after, Transcript-append}
 
 -- ---- the lines of a stream that comes in pieces
 

@@ -9,6 +9,7 @@ pub mod DrawnSteps
 pub mod Emptied
 pub mod Ending
 pub mod Faults
+pub mod Gathered
 pub mod GeneratedRun
 pub mod GivenState
 pub mod Growth

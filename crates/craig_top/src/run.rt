@@ -1,7 +1,7 @@
 //! A script from a source, answered line by line to a sink.
 //!
-//! What was read is cut into lines, and the reply to each line is built whole and put whole before the next line
-//! is answered. The text put so far is a transcript of the lines answered so far, and these are the lines whose
+//! What was read is cut into lines. Their replies are gathered, and put as soon as they have 65536 bytes and in any
+//! case before the next read and before the run ends. Between two reads the text put is a transcript of the lines whose
 //! newline was read: that is the invariant. How long a read or a write takes is not promised.
 
 ghost use Rattle.std.specs.Prelude.{◌≡◌, ◌≢◌, ℕ, ◌<◌, ◌≤◌, ◌+◌, List, [], false, length, vec_len, Option, Some, Err, OnOk, IfOk, IfErr, OnErr};
@@ -17,11 +17,14 @@ use crate::session::Session;
 use crate::settings::Settings;
 use crate::status::Status;
 use craig_io::{Failed, Sink, Source, put_all};
-use craig_script::Lines;
+use craig_script::{Line, Lines};
 use std::alloc::{AllocError, Global};
 
 /// The most bytes that one read asks for.
 const READ_SIZE: usize = 65536;
+
+/// How many bytes of replies are gathered before they are put.
+const ENOUGH: usize = 65536;
 
 /// Why lines are answered no further.
 #[derive(Clone, Copy, Debug, PartialEq, Eq)]
@@ -73,15 +76,55 @@ struct Run {
     session: Session,
     /// What came of the script and is not answered yet.
     lines: Lines,
-    /// The reply to the last line.
-    reply: Vec<u8>,
+    /// The replies that are gathered and not put yet, or were put last.
+    replies: Vec<u8>,
 }
 
 impl Run {
-    ghost use Rattle.craig_top.specs.Puts.{PutsReplies, StopsIn};
+    ghost use Rattle.std.specs.Prelude.{true};
+    ghost use Rattle.craig_script.specs.Lines.{LinesView};
+    ghost use Rattle.craig_top.specs.Appended.{AppendsText};
+    ghost use Rattle.craig_top.specs.Gathered.{Gathers};
+    ghost use Rattle.craig_top.specs.GivenState.{next};
     ghost use Rattle.craig_top.specs.Progress.{Progress, StepLeaves, IsStop};
+    ghost use Rattle.craig_top.specs.Puts.{PutsReplies, StopsIn};
+    ghost use Rattle.craig_top.specs.Reply.{Reply};
+    ghost use Rattle.craig_top.specs.Transcript.{BeginsTranscript};
 
-    /// Answers each line that waits, in order.
+    /// Answers a line. Its reply is gathered behind the others, whole or, after an error, not at all.
+    fn answer(&mut self, line: &Line) -> Result<(), AllocError>
+        ensures reply { OnOk result (AppendsText self.old.replies.items self.new.replies.items (Reply self.old.session.state line.now)) }
+        ensures state { OnOk result (self.new.session.state ≡ next self.old.session.state line.now) }
+        ensures lines { self.new.lines ≡ self.old.lines }
+        ensures unchanged { OnErr result (self.new.replies.items ≡ self.old.replies.items) }
+    {
+        let whole = self.replies.len();
+        let answered = self.session.answer(line, &mut self.replies);
+        if answered.is_err() {
+            self.replies.truncate(whole);
+        }
+        answered
+    }
+
+    /// Answers lines that wait, in order, until their replies are enough to be put or none waits. Says whether the
+    /// replies were enough: then lines may wait still. After an error the replies gathered so far are whole.
+    fn gather(&mut self) -> Result<bool, AllocError>
+        ensures gathered { OnOk result (Gathers self.old.session.state self.new.session.state self.old.lines self.new.lines self.new.replies.items) }
+        ensures whole { BeginsTranscript self.old.session.state self.old.lines.ready self.new.replies.items }
+        ensures enough { IfOk result (λ enough. enough ≡ true → 65536 ≤ length self.new.replies.items) }
+        ensures all { IfOk result (λ enough. enough ≡ false → self.new.lines.ready ≡ []) }
+    {
+        self.replies.clear();
+        while self.replies.len() < ENOUGH {
+            let Some(line) = self.lines.next() else {
+                return Ok(false);
+            };
+            self.answer(&line)?;
+        }
+        Ok(true)
+    }
+
+    /// Answers each line that waits, in order, and puts the replies: those that are whole also where memory runs out.
     fn answer_ready<W: Sink>(&mut self, sink: &mut W) -> Result<(), Stop>
         ensures lines { OnOk result (self.new.lines ≡ emptied self.old.lines) }
         ensures session { OnOk result (self.new.session.state ≡ after self.old.session.state self.old.lines.ready) }
@@ -89,12 +132,14 @@ impl Run {
         ensures stopped { IfErr result (StopsIn self.old.session.state self.old.lines (W.contents sink.old) (W.contents sink.new)) }
         ensures write_fault { CountsFaults (result ≡ Err Stop.WriteFault) (W.faults sink.old) (W.faults sink.new) }
     {
-        while let Some(line) = self.lines.next() {
-            self.reply.clear();
-            self.session.answer(&line, &mut self.reply)?;
-            put_all(sink, &self.reply)?;
+        loop {
+            let gathered = self.gather();
+            put_all(sink, &self.replies)?;
+            let enough = gathered?;
+            if !enough {
+                return Ok(());
+            }
         }
-        Ok(())
     }
 
     /// Takes the next bytes of the script, and answers the lines that are whole with them.
@@ -214,7 +259,7 @@ pub fn run_script<R: Source, W: Sink>(
     let mut run = Run {
         session: Session::new(alloc, settings),
         lines: Lines::new(alloc),
-        reply: Vec::new(alloc),
+        replies: Vec::new(alloc),
     };
     run.read_to_end(source, sink, &mut buffer, bound)
 }

@@ -1,5 +1,5 @@
 -- The steps that a root needs, and the set of ids by which they are found.
-use Rattle.std.proofs.Common.{◌≡◌, ℕ, suc, zero, ◌+◌, ◌<◌, ◌≤◌, Bool, true, false, cond, not, ◌||◌, ◌&&◌, eqb, List, [], ◌∷◌, length, get_or, take, map, All, Contains, Some, length-take, refl, ap, sym, ◌∙◌, arith, eqb-true, ne_eqb, eq-eqb, ◌⊎◌, inl, inr, is_eq, is_lt}
+use Rattle.std.proofs.Common.{◌≡◌, ℕ, suc, zero, ◌+◌, ◌<◌, ◌≤◌, Bool, true, false, cond, not, ◌||◌, ◌&&◌, eqb, List, [], ◌∷◌, length, get_or, take, map, All, Contains, Some, length-take, refl, ap, sym, subst, ◌∙◌, arith, eqb-true, ne_eqb, eq-eqb, ◌⊎◌, inl, inr, is_eq, is_lt}
 use native.Mathlib.Decide.{dec_lt}
 use Rattle.std.specs.List.{filter, list_any}
 use Rattle.std.specs.BTreeSet.{BTreeSet, Updates, IsUpperBound}
@@ -15,7 +15,7 @@ use Rattle.craig_spec.proofs.ToldLemmas.{StandsOn-given}
 use Rattle.craig_spec.specs.Literal.{Clause}
 use Rattle.craig_spec.specs.Chain.{ChainStep, ToldStep, Told, antecedents, clause_told, IsChain, EachStands, AreRising, IsTold, Derived}
 use Rattle.craig_spec.specs.Needed.{IsClosed, IsNeeded, IsNeededPart, unforgotten}
-use Rattle.craig_proof.specs.NeededSteps.{bound_of, HasId, IsTaken, WaitsMore, waits}
+use Rattle.craig_proof.specs.NeededSteps.{BackMarks, bound_of, HasId, IsTaken, WaitsMore, waits}
 use Rattle.craig_proof.proofs.ToldLemmas.{HasId-at}
 use Rattle.craig_proof.proofs.FollowsLemmas.{told_place}
 
@@ -56,32 +56,39 @@ HasId-antecedents steps k d stand within i e inside =
     let p = antecedent_before steps k (get_or (antecedents (get_or steps k d).origin) i e) d stand within (i, inside, get_or_default (antecedents (get_or steps k d).origin) i _ e inside) in
     HasId-at steps (get_or (antecedents (get_or steps k d).origin) i e) p.0 (omega arith) p.2
 
--- what holds when the steps from a place on are done
-pub record BackMarks (steps : List ToldStep) (root : ℕ) (p : ℕ → Bool) (place : ℕ) : Type 0 where
-  pub rooted : p root ≡ true
-  pub closed : (k : ℕ) (d : ToldStep) (x : ℕ) → place ≤ k → k < length steps → p (get_or steps k d).id ≡ true → Contains (antecedents (get_or steps k d).origin) x → p x ≡ true
-  pub needed : (x : ℕ) → p x ≡ true → IsNeeded steps root x
-
-pub BackMarks-first : (steps : List ToldStep) (root : ℕ) (p : ℕ → Bool) → ((x : ℕ) → p x ≡ eqb x root) → BackMarks steps root p (length steps)
-BackMarks-first steps root p is = record {
-  rooted = is root ∙ eq-eqb root root refl;
-  closed = λ k d x past within m here. absurd (omega arith);
-  needed = λ x m q at closed. let e : x ≡ root = eqb-true x root (sym (is x) ∙ m) in rw e at;
-}
-
 at_or_later : (place k : ℕ) → place ≤ k → (place ≡ k) ⊎ (place + 1 ≤ k)
 at_or_later place k h = elim (dec_lt place k) [ Prim.yes lt ↦ inr (omega arith) | Prim.no not_below ↦ inl (let not_lt : place < k → ⊥ = not_below in omega arith) ]
 
+-- at first the roots are in the set alone
+pub BackMarks-first : (steps : List ToldStep) (IsRoot IsReached : ℕ → Type 0) (p : ℕ → Bool) → ((x : ℕ) → IsRoot x → p x ≡ true) → ((x : ℕ) → p x ≡ true → IsReached x) → BackMarks steps IsRoot IsReached p (length steps)
+BackMarks-first steps IsRoot IsReached p rooted reached = record {
+  rooted = rooted;
+  closed = λ k d x past within m here. absurd (omega arith);
+  reached = reached;
+}
+
 -- a step that isn't marked
-pub BackMarks-skip : (steps : List ToldStep) (root : ℕ) (p : ℕ → Bool) (place : ℕ) → BackMarks steps root p (place + 1) → ((d : ToldStep) → p (get_or steps place d).id ≡ false) → BackMarks steps root p place
-BackMarks-skip steps root p place back off = record {
+pub BackMarks-skip : (steps : List ToldStep) (IsRoot IsReached : ℕ → Type 0) (p : ℕ → Bool) (place : ℕ) → BackMarks steps IsRoot IsReached p (place + 1) → ((d : ToldStep) → p (get_or steps place d).id ≡ false) → BackMarks steps IsRoot IsReached p place
+BackMarks-skip steps IsRoot IsReached p place back off = record {
   rooted = back.rooted;
   closed = λ k d x past within m here.
       elim (at_or_later place k past) [
         | inl same ↦ absurd (let no : p (get_or steps k d).id ≡ false = rw (← same) (off d) in cc)
         | inr later ↦ back.closed k d x later within m here
       ];
-  needed = back.needed;
+  reached = back.reached;
+}
+
+-- a step that is derived from none
+pub BackMarks-alone : (steps : List ToldStep) (IsRoot IsReached : ℕ → Type 0) (p : ℕ → Bool) (place : ℕ) → BackMarks steps IsRoot IsReached p (place + 1) → ((d : ToldStep) → antecedents (get_or steps place d).origin ≡ []) → BackMarks steps IsRoot IsReached p place
+BackMarks-alone steps IsRoot IsReached p place back none = record {
+  rooted = back.rooted;
+  closed = λ k d x past within m here.
+      elim (at_or_later place k past) [
+        | inl same ↦ absurd (let no : Contains [] x = subst (λ xs. Contains xs x) (none d) (subst (λ n. Contains (antecedents (get_or steps n d).origin) x) (sym same) here) in let low : no.0 < 0 = no.1 in omega arith)
+        | inr later ↦ back.closed k d x later within m here
+      ];
+  reached = back.reached;
 }
 
 either : (a b : Bool) → (a || b) ≡ true → (a ≡ true) ⊎ (b ≡ true)
@@ -89,7 +96,7 @@ either true b h = inl refl
 either false b h = inr h
 
 -- a step that is marked
-module _ (steps : List ToldStep) (root : ℕ) (old new : ℕ → Bool) (place : ℕ) (at : ToldStep) (rising : AreRising steps) (stand : EachStands steps) (within : place < length steps) (is_at : get_or steps place at ≡ at) (back : BackMarks steps root old (place + 1)) (on : old at.id ≡ true) (marked : (x : ℕ) → new x ≡ (list_any (eqb x) (antecedents at.origin) || old x)) where
+module _ (steps : List ToldStep) (IsRoot IsReached : ℕ → Type 0) (old new : ℕ → Bool) (place : ℕ) (at : ToldStep) (rising : AreRising steps) (stand : EachStands steps) (within : place < length steps) (is_at : get_or steps place at ≡ at) (back : BackMarks steps IsRoot IsReached old (place + 1)) (reaches : (x : ℕ) → IsReached at.id → Contains (antecedents at.origin) x → IsReached x) (on : old at.id ≡ true) (marked : (x : ℕ) → new x ≡ (list_any (eqb x) (antecedents at.origin) || old x)) where
   stays : (x : ℕ) → old x ≡ true → new x ≡ true
   stays x h = marked x ∙ or_right _ _ h
 
@@ -115,44 +122,48 @@ module _ (steps : List ToldStep) (root : ℕ) (old new : ℕ → Bool) (place : 
         | inr was ↦ stays x (back.closed k d x later inside was here)
       ]
 
-  needed_new : (x : ℕ) → new x ≡ true → IsNeeded steps root x
-  needed_new x m =
+  reached_new : (x : ℕ) → new x ≡ true → IsReached x
+  reached_new x m =
       elim (either (list_any (eqb x) (antecedents at.origin)) (old x) (sym (marked x) ∙ m)) [
-        | inl ante ↦ (λ p here closed. closed at x (place, within, is_at) (back.needed at.id on p here closed) (member-list_any x (antecedents at.origin) ante))
-        | inr was ↦ back.needed x was
+        | inl ante ↦ reaches x (back.reached at.id on) (member-list_any x (antecedents at.origin) ante)
+        | inr was ↦ back.reached x was
       ]
 
-  pub BackMarks-mark : BackMarks steps root new place
+  pub BackMarks-mark : BackMarks steps IsRoot IsReached new place
   BackMarks-mark = record {
-    rooted = stays root back.rooted;
+    rooted = λ x is. stays x (back.rooted x is);
     closed = λ k d x past inside m here.
         elim (at_or_later place k past) [
           | inl same ↦ closed_at k d x same here
           | inr later ↦ closed_later k d x later inside m here
         ];
-    needed = needed_new;
+    reached = reached_new;
   }
 
 -- when all are done
-closed_done : (steps : List ToldStep) (root : ℕ) (p : ℕ → Bool) → BackMarks steps root p 0 → IsClosed steps p
-closed_done steps root p back s x (k, within, is) m here = back.closed k s x (omega arith) within (rw is m) (rw is here)
+pub BackMarks-closed : (steps : List ToldStep) (IsRoot IsReached : ℕ → Type 0) (p : ℕ → Bool) → BackMarks steps IsRoot IsReached p 0 → IsClosed steps p
+BackMarks-closed steps IsRoot IsReached p back s x (k, within, is) m here = back.closed k s x (omega arith) within (rw is m) (rw is here)
+
+-- what a needed step is derived from is needed
+needed_more : (steps : List ToldStep) (root place : ℕ) (at : ToldStep) → place < length steps → ((d : ToldStep) → get_or steps place d ≡ at) → (x : ℕ) → IsNeeded steps root at.id → Contains (antecedents at.origin) x → IsNeeded steps root x
+needed_more steps root place at within is x needed ante p here closed = closed at x (place, within, is at) (needed p here closed) ante
 
 -- the next place back, whether its step is marked or not
-needed_next : (steps : List ToldStep) (root place : ℕ) (at : ToldStep) (p : ℕ → Bool) (b : Bool) → AreRising steps → EachStands steps → place < length steps → ((d : ToldStep) → get_or steps place d ≡ at) → BackMarks steps root p (place + 1) → p at.id ≡ b → (q : ℕ → Bool) × BackMarks steps root q place
+needed_next : (steps : List ToldStep) (root place : ℕ) (at : ToldStep) (p : ℕ → Bool) (b : Bool) → AreRising steps → EachStands steps → place < length steps → ((d : ToldStep) → get_or steps place d ≡ at) → BackMarks steps (λ x. x ≡ root) (IsNeeded steps root) p (place + 1) → p at.id ≡ b → (q : ℕ → Bool) × BackMarks steps (λ x. x ≡ root) (IsNeeded steps root) q place
 needed_next steps root place at p true rising stand within is back on =
-    (λ x. list_any (eqb x) (antecedents at.origin) || p x, BackMarks-mark steps root p (λ x. list_any (eqb x) (antecedents at.origin) || p x) place at rising stand within (is at) back on (λ x. refl))
+    (λ x. list_any (eqb x) (antecedents at.origin) || p x, BackMarks-mark steps (λ x. x ≡ root) (IsNeeded steps root) p (λ x. list_any (eqb x) (antecedents at.origin) || p x) place at rising stand within (is at) back (needed_more steps root place at within is) on (λ x. refl))
 needed_next steps root place at p false rising stand within is back off =
-    (p, BackMarks-skip steps root p place back (λ d. ap (λ (s : ToldStep). p s.id) (is d) ∙ off))
+    (p, BackMarks-skip steps (λ x. x ≡ root) (IsNeeded steps root) p place back (λ d. ap (λ (s : ToldStep). p s.id) (is d) ∙ off))
 
 -- one step of a list that has some
 pub some_step : (steps : List ToldStep) (place : ℕ) → place < length steps → ToldStep
 some_step [] place within = absurd (omega arith)
 some_step (s ∷ steps) place within = s
 
-needed_back : (steps : List ToldStep) (root : ℕ) → AreRising steps → EachStands steps → (n place : ℕ) → n + place ≡ length steps → (p : ℕ → Bool) × BackMarks steps root p place
+needed_back : (steps : List ToldStep) (root : ℕ) → AreRising steps → EachStands steps → (n place : ℕ) → n + place ≡ length steps → (p : ℕ → Bool) × BackMarks steps (λ x. x ≡ root) (IsNeeded steps root) p place
 needed_back steps root rising stand zero place all =
     let at_end : place ≡ length steps = omega arith in
-    (λ x. eqb x root, rw at_end (BackMarks-first steps root (λ x. eqb x root) (λ x. refl)))
+    (λ x. eqb x root, rw at_end (BackMarks-first steps (λ x. x ≡ root) (IsNeeded steps root) (λ x. eqb x root) (λ x is. eq-eqb x root is) (λ x m q at closed. let e : x ≡ root = eqb-true x root m in rw e at)))
 needed_back steps root rising stand (suc n) place all =
     let within : place < length steps = omega arith in
     let d : ToldStep = some_step steps place within in
@@ -163,8 +174,8 @@ needed_back steps root rising stand (suc n) place all =
 pub IsNeededPart-exists : (t : Told) → IsTold t → (root : ℕ) → (part : List ToldStep) × IsNeededPart t.steps root part
 IsNeededPart-exists t told root =
     let all = needed_back t.steps root told.rising told.stand (length t.steps) 0 (omega arith) in
-    let closed = closed_done t.steps root all.0 all.1 in
-    (map unforgotten (filter (λ s. all.0 s.id) t.steps), (all.0, λ s here. (all.1.needed s.id, λ needed. needed all.0 all.1.rooted closed), refl))
+    let closed = BackMarks-closed t.steps (λ x. x ≡ root) (IsNeeded t.steps root) all.0 all.1 in
+    (map unforgotten (filter (λ s. all.0 s.id) t.steps), (all.0, λ s here. (all.1.reached s.id, λ needed. needed all.0 (all.1.rooted root refl) closed), refl))
 
 or_join : (a b c : Bool) → (a || (b || c)) ≡ ((a || b) || c)
 or_join true b c = refl
@@ -205,7 +216,7 @@ false_unless false never = refl
 not_found : (found : List ToldStep) (s : ToldStep) (x : ℕ) → ((r : ToldStep) → Contains found r → s.id < r.id) → x ≤ s.id → was_found found x ≡ false
 not_found found s x below le = false_unless (was_found found x) (λ h. let w = member-was_found found x h in let up : s.id < (w.0).id = below w.0 w.1 in let is : (w.0).id ≡ x = w.2 in omega arith)
 
-filter-same : (p q : ToldStep → Bool) (steps : List ToldStep) → ((s : ToldStep) → Contains steps s → p s ≡ q s) → filter p steps ≡ filter q steps
+pub filter-same : (p q : ToldStep → Bool) (steps : List ToldStep) → ((s : ToldStep) → Contains steps s → p s ≡ q s) → filter p steps ≡ filter q steps
 filter-same p q [] h = refl
 filter-same p q (s ∷ steps) h =
     let rest : filter p steps ≡ filter q steps = filter-same p q steps (λ r here. h r (suc here.0, omega (arith, here.1), here.2)) in

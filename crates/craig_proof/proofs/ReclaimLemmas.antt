@@ -6,7 +6,9 @@ use Rattle.std.proofs.lemmas.List.Elements.{All-filter}
 use Rattle.std.proofs.lemmas.List.Kept.{AllPairs-filter}
 use Rattle.craig_spec.proofs.MemberLemmas.{Contains-take}
 use Rattle.craig_spec.specs.Chain.{ToldStep, Told, antecedents, clause_told, EachStands, IsTold}
-use Rattle.craig_spec.specs.Needed.{Reclaims}
+use Rattle.craig_spec.specs.Needed.{IsOriginal, Reclaims}
+use Rattle.craig_base.specs.Clauses.{IsNormal}
+use Rattle.craig_proof.specs.StoredSteps.{IsStore}
 use Rattle.craig_proof.proofs.ChainLemmas.{StandsOn-same}
 
 -- where a step stood that is left, and that those before it are what is left of those that were
@@ -54,4 +56,11 @@ IsTold-reclaims t u told r = record {
   rising = rw r.steps (AllPairs-filter (λ q s. q.id < s.id) r.kept t.steps told.rising);
   greatest = rw (r.greatest, r.steps) (All-filter r.kept (λ s. (g : ℕ) × (t.greatest ≡ Some g) × (s.id ≤ g)) t.steps told.greatest);
   stand = rw r.steps (EachStands-left r.kept t.steps told.stand r.closed);
+}
+
+-- and what a store keeps
+pub IsStore-reclaims : (t u : Told) → IsStore t → Reclaims t u → IsStore u
+IsStore-reclaims t u store r = record {
+  told = IsTold-reclaims t u store.told r;
+  normal = rw r.steps (All-filter r.kept (λ s. IsOriginal s.origin → IsNormal s.literals) t.steps store.normal);
 }

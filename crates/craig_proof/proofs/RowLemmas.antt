@@ -54,7 +54,7 @@ read_row l b r s row =
     let origin : origin_in r.id.0 (bytes_of s) r.part ≡ s.origin = rw row.id (read_origin s.id r.part s.origin row.part row.packable) in
     λ i. record { id = row.id i; literals = s.literals; origin = origin i; forgotten = row.forgotten i }
 
-read_rows : (l : Clause) (b : List ℕ) (rows : List StoredStep) (steps : List ToldStep) → AreRows (length l) (length b) rows steps → steps_in (l ++ all_literals steps) (b ++ all_bytes steps) rows ≡ steps
+pub read_rows : (l : Clause) (b : List ℕ) (rows : List StoredStep) (steps : List ToldStep) → AreRows (length l) (length b) rows steps → steps_in (l ++ all_literals steps) (b ++ all_bytes steps) rows ≡ steps
 read_rows l b [] [] are = refl
 read_rows l b [] (s ∷ steps) are = absurd are
 read_rows l b (r ∷ rows) [] are = absurd are
@@ -78,7 +78,7 @@ pub stored_same : (rows : List StoredStep) (literals : Clause) (bytes : List ℕ
 stored_same rows literals bytes steps stored = rw (read_stored rows literals bytes steps stored) stored
 
 -- a row more
-AreRows-more : (l b : ℕ) (rows : List StoredStep) (steps : List ToldStep) (r : StoredStep) (s : ToldStep) → AreRows l b rows steps → IsRow (l + length (all_literals steps)) (b + length (all_bytes steps)) r s → AreRows l b (rows ++ r ∷ []) (steps ++ s ∷ [])
+pub AreRows-more : (l b : ℕ) (rows : List StoredStep) (steps : List ToldStep) (r : StoredStep) (s : ToldStep) → AreRows l b rows steps → IsRow (l + length (all_literals steps)) (b + length (all_bytes steps)) r s → AreRows l b (rows ++ r ∷ []) (steps ++ s ∷ [])
 AreRows-more l b [] [] r s are row =
     let l_is : l + 0 ≡ l = omega arith in
     let b_is : b + 0 ≡ b = omega arith in
@@ -332,3 +332,12 @@ pub derived_lent : (steps : List ToldStep) (k id : ℕ) (packed : List ℕ) (fir
 derived_lent steps k id packed first rest row read =
     let is = read row.first row.rest row.packable row.bytes_are in
     (row.step, row.at, row.origin_is ∙ (λ i. Derived (sym is.0 i) (sym is.1 i)))
+
+-- a row that is read where there is none
+abbrev pub no_row : StoredStep
+no_row = record { id = record { 0 = 0 }; literals = 0; bytes = 0; part = None; forgotten = false; needed = false }
+
+-- the bytes of the row at a place
+pub bytes_of_row : (rows : List StoredStep) (bytes : List ℕ) (steps : List ToldStep) (k «end» all : ℕ) (e : StoredStep) → AreStored rows (all_literals steps) bytes steps → k < length rows → all ≡ length bytes → «end» ≡ first_start (λ q. q.bytes) (drop (k + 1) rows) all → PartLies steps k bytes bytes_of (get_or rows k e).bytes «end»
+bytes_of_row rows bytes steps k «end» all e stored within total end_is =
+    bytes_lie rows (all_literals steps) bytes steps stored k (get_or rows k e) within (get_or_default rows k e (get_or rows k e) within) «end» all total end_is

@@ -7,5 +7,6 @@ pub mod Lent
 pub mod NeededSteps
 pub mod PackedSteps
 pub mod Pair
+pub mod Reclaiming
 pub mod StoredSteps
 pub mod Tracer

@@ -1,10 +1,10 @@
 -- The steps that a root needs, as they are found.
-use Rattle.std.specs.Prelude.{◌≡◌, max, suc, ◌<◌, ◌||◌, ◌&&◌, ℕ, Bool, not, List, [], ◌∷◌, Option, Some, None, Contains, IsTrue, nat_eq}
+use Rattle.std.specs.Prelude.{◌≡◌, max, suc, ◌<◌, ◌≤◌, ◌||◌, ◌&&◌, ℕ, Bool, not, List, [], ◌∷◌, Option, Some, None, Contains, IsTrue, length, nat_eq, slice_index_or}
 use Rattle.std.specs.BTreeSet.{BTreeSet, contains}
 use Rattle.std.specs.List.{list_any}
 use Rattle.std.specs.Option.{ForSome}
 use Rattle.std.specs.Ordering.{nat_cmp}
-use Rattle.craig_spec.specs.Chain.{ToldStep, Told}
+use Rattle.craig_spec.specs.Chain.{ToldStep, Told, antecedents}
 
 -- the id of the last step
 abbrev pub last_id : List ToldStep → Option ℕ
@@ -43,3 +43,12 @@ bound_of (n ∷ ns) = max (suc n) (bound_of ns)
 -- where nothing was told before, it is these steps afterwards
 abbrev pub TellsSteps : List ToldStep → Option Told → Option Told → Type 0
 TellsSteps steps before after = ForSome before (λ _. (u : Told) × (after ≡ Some u) × (u.steps ≡ steps) × (u.greatest ≡ last_id steps))
+
+-- the ids of a set, when the steps from a place on are done: they have the roots, and are all reached from these
+pub record BackMarks (steps : List ToldStep) (IsRoot IsReached : ℕ → Type 0) (p : ℕ → Bool) (place : ℕ) : Type 0 where
+  -- each root is in the set
+  pub rooted : (x : ℕ) → IsRoot x → IsTrue (p x)
+  -- with each step from the place on the set has its antecedents
+  pub closed : (k : ℕ) (d : ToldStep) (x : ℕ) → place ≤ k → k < length steps → IsTrue (p (slice_index_or steps k d).id) → Contains (antecedents (slice_index_or steps k d).origin) x → IsTrue (p x)
+  -- what is in the set is reached
+  pub reached : (x : ℕ) → IsTrue (p x) → IsReached x

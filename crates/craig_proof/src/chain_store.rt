@@ -10,6 +10,7 @@ ghost use Rattle.craig_spec.specs.Chain.{ChainStep, Told, IsTold, IsAbove, IsUnf
 ghost use Rattle.craig_spec.specs.Needed.{AllFollow, IsNeededPart, Reclaims};
 ghost use Rattle.craig_spec.specs.PackedChain.{packed_chain};
 ghost use Rattle.craig_proof.specs.ChainStore.{HasDerived, IsDerivedUnder, IsReplayed};
+ghost use Rattle.craig_proof.specs.Reclaiming.{AreAllInUse};
 ghost use Rattle.craig_proof.specs.Tracer.{chain_of, original_step, derived_step, Appends, AreUnforgotten, IsReclaimed, IsToldChain};
 
 use crate::finding::needed_steps;
@@ -175,7 +176,9 @@ impl Tracer for ChainStore {
     fn reclaim(&mut self)
         ensures told { IsReclaimed (Some self.old.told) (Some self.new.told) }
         ensures tells { is_some (Some self.new.told) ≡ is_some (Some self.old.told) }
-        ensures unchanged { self.new ≡ self.old }
+        ensures in_use { AreAllInUse self.old.told.steps self.new.told.steps }
         ensures dead { self.new.dead ≡ self.old.dead }
-    {}
+    {
+        self.steps.reclaim();
+    }
 }

@@ -9,6 +9,7 @@
 mod chain_store;
 mod finding;
 pub mod laws;
+mod marking;
 mod needed;
 mod needed_step;
 mod packed_number;
@@ -17,7 +18,9 @@ mod packing;
 mod pair;
 mod place;
 mod replay;
+mod row_ends;
 mod silent;
+mod sliding;
 mod step;
 mod step_list;
 mod stored_step;

@@ -1,14 +1,19 @@
 //! The steps that a store keeps, in three lists: fixed rows, and the literals and the packed chains of all.
-ghost use Rattle.std.specs.Prelude.{◌≡◌, ◌<◌, ◌+◌, ◌++◌, [], ◌∷◌, All, drop, length, map, OnErr, OnOk};
-ghost use Rattle.craig_spec.specs.Chain.{AreRising, forgotten_at};
+ghost use Rattle.std.specs.Prelude.{◌≡◌, ◌<◌, ◌++◌, [], ◌∷◌, ℕ, All, Option, length, map, OnErr, OnOk};
+ghost use Rattle.craig_spec.specs.Chain.{AreRising, EachStands, forgotten_at};
+ghost use Rattle.craig_spec.specs.Needed.{Reclaims};
 ghost use Rattle.craig_proof.specs.Lent.{IsAtPlace, IsLent};
 ghost use Rattle.craig_proof.specs.NeededSteps.{HasId};
-ghost use Rattle.craig_proof.specs.StoredSteps.{bytes_of, first_start};
+ghost use Rattle.craig_proof.specs.Reclaiming.{AreAllInUse};
+ghost use Rattle.craig_proof.specs.StoredSteps.{bytes_of};
 ghost use Rattle.craig_proof.specs.Tracer.{chain_of, derived_step, original_step};
 
+use crate::marking::mark_needed;
 use crate::packed_steps::PackedSteps;
 use crate::packing::append_chain;
 use crate::place::place_of;
+use crate::row_ends::{bytes_at, end_of_literals};
+use crate::sliding::slide_down;
 use crate::stored_step::StoredStep;
 use crate::{NeededStep, Step};
 use craig_base::{ClauseId, Lit, Part};
@@ -39,28 +44,6 @@ impl Model for StoredSteps {
     ghost view = { λ s. steps_in s.literals.items s.bytes.items s.rows.items };
 
     ghost invariant = { λ s. AreStored s.rows.items s.literals.items s.bytes.items (steps_in s.literals.items s.bytes.items s.rows.items) };
-}
-
-/// Where the literals of the row at the place end.
-fn end_of_literals(rows: &[StoredStep], place: usize, all: usize) -> usize
-    requires { place < length rows.now }
-    ensures { result ≡ first_start (λ r. r.literals) (drop (place + 1) rows.now) all }
-{
-    match rows.get(place + 1) {
-        Some(next) => next.literals,
-        None => all,
-    }
-}
-
-/// Where the bytes of the row at the place end.
-fn end_of_bytes(rows: &[StoredStep], place: usize, all: usize) -> usize
-    requires { place < length rows.now }
-    ensures { result ≡ first_start (λ r. r.bytes) (drop (place + 1) rows.now) all }
-{
-    match rows.get(place + 1) {
-        Some(next) => next.bytes,
-        None => all,
-    }
 }
 
 impl StoredSteps {
@@ -175,9 +158,7 @@ impl StoredSteps {
         requires { place < length self.now }
         ensures { IsAtPlace self.now place (λ s. bytes_of s ≡ result.now) }
     {
-        let start = self.rows[place].bytes;
-        let end = end_of_bytes(self.rows.as_slice(), place, self.bytes.len());
-        &self.bytes[start..end]
+        bytes_at(self.rows.as_slice(), self.bytes.as_slice(), place)
     }
 
     /// Where the step at the place comes from.
@@ -203,5 +184,18 @@ impl StoredSteps {
     {
         let place = place_of(self.rows.as_slice(), id);
         self.rows[place].forgotten = true;
+    }
+    /// Gives up the steps that no id needs that isn't forgotten, and keeps the others in their order. It takes no memory.
+    pub(crate) fn reclaim(&mut self)
+        requires rising { AreRising self.old }
+        requires stand { EachStands self.old }
+        ensures reclaims { (greatest : Option ℕ) → Reclaims (record { greatest = greatest; steps = self.old }) (record { greatest = greatest; steps = self.new }) }
+        ensures in_use { AreAllInUse self.old self.new }
+    {
+        mark_needed(&mut self.rows, &self.bytes);
+        let filled = slide_down(&mut self.rows, &mut self.literals, &mut self.bytes);
+        self.rows.truncate(filled.rows);
+        self.literals.truncate(filled.literals);
+        self.bytes.truncate(filled.bytes);
     }
 }

@@ -10,7 +10,7 @@ use crate::grown::grow;
 use craig_base::{ClauseId, Flags, Lit, Part, Var};
 use craig_order::Order;
 use craig_proof::Silent;
-use craig_search::{Verdict, search};
+use craig_search::{Verdict, Workspace, search};
 use craig_watch::Held;
 use std::alloc::{AllocError, Global};
 use std::test::Fail;
@@ -32,7 +32,8 @@ fn root(
     requires begins { MayBegin held.old order.old None }
     requires known { All (λ a. a.1.var < held.old.vars) assumptions.now }
 {
-    let verdict = search(alloc, held, order, &mut Silent, assumptions, None)?;
+    let mut workspace = Workspace::new(alloc);
+    let verdict = search(alloc, held, order, &mut Silent, &mut workspace, assumptions, None)?;
     let Verdict::Failed { root, places } = verdict else {
         return Ok(None);
     };
@@ -49,7 +50,8 @@ fn has_model(alloc: Global, held: &mut Held, order: &mut Order) -> Result<bool, 
 {
     grow(held, order, 2)?;
     held.hold(&[Lit::new(Var(0), false), Lit::new(Var(1), false)], FLAGS)?;
-    let verdict = search(alloc, held, order, &mut Silent, &[], None)?;
+    let mut workspace = Workspace::new(alloc);
+    let verdict = search(alloc, held, order, &mut Silent, &mut workspace, &[], None)?;
     Ok(matches!(verdict, Verdict::Model))
 }
 
@@ -156,7 +158,8 @@ fn is_refuted_by_propagation(
     let v0 = Lit::new(Var(0), false);
     held.hold(&[v0], FLAGS)?;
     held.hold(&[v0.not()], FLAGS)?;
-    let verdict = search(alloc, held, order, &mut Silent, &[], Some(1))?;
+    let mut workspace = Workspace::new(alloc);
+    let verdict = search(alloc, held, order, &mut Silent, &mut workspace, &[], Some(1))?;
     Ok(matches!(verdict, Verdict::Failed { .. }))
 }
 
@@ -179,7 +182,8 @@ fn learns_lemma(alloc: Global, held: &mut Held, order: &mut Order) -> Result<boo
     held.hold(&[v0, v1], FLAGS)?;
     held.hold(&[v0, v1.not()], FLAGS)?;
     let assumed = [(Part(1), v0.not())];
-    let verdict = search(alloc, held, order, &mut Silent, &assumed, Some(1))?;
+    let mut workspace = Workspace::new(alloc);
+    let verdict = search(alloc, held, order, &mut Silent, &mut workspace, &assumed, Some(1))?;
     let Verdict::Limit(lemmas) = verdict else {
         return Ok(false);
     };

@@ -23,3 +23,4 @@ pub mod ForgottenLemmas
 pub mod ReasonLemmas
 pub mod ReducingLemmas
 mod TurnLemmas
+mod DerivedUnitLemmas

@@ -11,3 +11,4 @@ pub mod Fingerprint
 pub mod StoredJournal
 pub mod Journal
 pub mod Reducing
+pub mod Units

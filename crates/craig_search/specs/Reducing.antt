@@ -22,9 +22,9 @@ pub record LetsGo (first : ℕ) (old new : HeldView) (told_old told_new : Option
   -- a clause that is marked as kept is held still
   pub kept : StayKept old.arena new.arena
 
--- nothing was let go, or one reduction less may come, and the clauses since then are counted anew
+-- nothing was done, or one reduction less may come, and the clauses from now on are counted anew
 abbrev pub IsReduced : Reductions → Reductions → HeldView → HeldView → Type 0
-IsReduced old new before after = ((new ≡ old) × (after ≡ before)) ⊎ ((new.first ≡ old.first) × (new.since ≡ before.arena.given) × (new.left + 1 ≡ old.left))
+IsReduced old new before after = ((new ≡ old) × (after ≡ before)) ⊎ ((new.first ≡ old.first) × (new.since ≡ after.arena.given) × (new.left + 1 ≡ old.left))
 
 -- the clause of the id is learnt
 abbrev pub IsLearnt : ArenaView → ℕ → Type 0

@@ -15,8 +15,8 @@ use crate::reducing::reduce_if_due;
 use crate::reductions::Reductions;
 use crate::refuting::refuted;
 use crate::restarting::restart_if_due;
-use crate::{Journal, Places, Verdict};
-use craig_analyze::Analysis;
+use crate::units::derive_units;
+use crate::{Journal, Places, Verdict, Workspace};
 use craig_base::{ClauseId, Lit, Part};
 use craig_order::{Order, Pace};
 use craig_proof::Tracer;
@@ -27,15 +27,16 @@ use std::alloc::{AllocError, Global};
 ///
 /// Literals are over dense variables, and an assumption is a literal with its part. The level is 0 at first, and the
 /// order knows the variables that are held and was given back all that are free. A tracer that tells its meaning covers
-/// the held clauses, and goes on doing so: it is told each learnt clause with its chain, and the empty clause for a
-/// refutation. Clauses that are not learnt stay as they are, and each new clause is learnt, follows from those that were
+/// the held clauses, and goes on doing so: it is told each learnt clause with its chain, the unit clause of each literal
+/// that a longer clause forces at level 0, and the empty clause for a refutation. Clauses that are not learnt stay as they are, and each new clause is learnt, follows from those that were
 /// held, and has variables of theirs alone. After `Model` the level stays as it is: the caller reads the values and goes
 /// back to level 0. After every other verdict the level is 0, and all free variables were given back again.
 ///
 /// An `AllocError` comes only for want of memory. After it nothing is promised of what was lent but that its calls are
 /// safe, and that the same variables are known. Clauses whose memory was refused before are not searched.
 ///
-/// A search lets some of the clauses go that it learnt itself, and the tracer forgets their ids.
+/// A search lets some of the clauses go that it learnt itself, and the tracer forgets their ids. What it keeps for the next
+/// search over the same clauses is in the workspace.
 ///
 /// Assumptions are decided in their order, each at a level of its own, and none that is true already. One that is false
 /// ends the search.
@@ -48,6 +49,7 @@ pub fn search<T: Tracer>(
     held: &mut Held,
     order: &mut Order,
     tracer: &mut T,
+    workspace: &mut Workspace,
     assumptions: &[(Part, Lit)],
     limit: Option<u64>,
 ) -> Result<Verdict, AllocError>
@@ -64,13 +66,13 @@ pub fn search<T: Tracer>(
 {
     let level = held.level();
     prove!(level == 0);
-    let mut analysis = Analysis::new(alloc);
     let mut journal = Journal::new(alloc);
     let outcome = run(
+        alloc,
         held,
         order,
         tracer,
-        &mut analysis,
+        workspace,
         assumptions,
         limit,
         &mut journal,
@@ -82,7 +84,8 @@ pub fn search<T: Tracer>(
             places: Places::none(alloc),
         }),
         Outcome::Failed(lit) => {
-            let failure = failed(alloc, held, order, tracer, &mut analysis, assumptions, lit)?;
+            let analysis = &mut workspace.analysis;
+            let failure = failed(alloc, held, order, tracer, analysis, assumptions, lit)?;
             Ok(Verdict::Failed {
                 root: failure.root,
                 places: failure.places,
@@ -98,10 +101,11 @@ pub fn search<T: Tracer>(
 /// Searches until no variable is free, until a clause is false at level 0, until an assumption is false, or until the
 /// journal has as many clauses as the limit.
 fn run<T: Tracer>(
+    alloc: Global,
     held: &mut Held,
     order: &mut Order,
     tracer: &mut T,
-    analysis: &mut Analysis,
+    workspace: &mut Workspace,
     assumptions: &[(Part, Lit)],
     limit: Option<u64>,
     journal: &mut Journal,
@@ -124,9 +128,10 @@ fn run<T: Tracer>(
     let mut pace = Pace::new();
     let mut reductions = Reductions::new(held.arena().given());
     let mut place = 0;
-    loop {
+    'turns: loop {
         match held.propagate()? {
             None => {
+                derive_units(alloc, held, tracer, &mut workspace.walked, &mut reductions)?;
                 place = first_open(held, assumptions, place);
                 match decide_next(held, order, assumptions, place) {
                     Turn::Decided => {}
@@ -135,6 +140,7 @@ fn run<T: Tracer>(
                 }
             }
             Some(conflict) => {
+                let analysis = &mut workspace.analysis;
                 if held.level() == 0 {
                     return Ok(Outcome::Refuted(refuted(held, tracer, analysis, conflict)?));
                 }

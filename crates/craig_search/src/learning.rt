@@ -9,6 +9,7 @@ ghost use Rattle.craig_search.specs.Searching.{GoesOn, IsNew, KeepsJournals, IsU
 
 use crate::Journal;
 use crate::going_back::go_back;
+use crate::holding::hold_derived;
 use craig_analyze::{Analysis, Learnt};
 use craig_base::{ClauseId, Flags, Lit};
 use craig_order::{Order, Pace};
@@ -90,15 +91,13 @@ fn hold_learnt<T: Tracer>(
     ensures tells { is_some (T.told tracer.new) ≡ is_some (T.told tracer.old) }
     ensures kept { T.kept tracer.new ≡ T.kept tracer.old }
 {
-    craig_proof::laws::covered_chain_is_told();
     let lits = learnt.lits.as_slice();
+    let rest = learnt.rest.as_slice();
     let flags = Flags {
         learnt: true,
         kept: journal.may_have(lits),
         glue: learnt.glue,
     };
-    let rest = learnt.rest.as_slice();
-    let id = held.hold(lits, flags)?;
-    tracer.derived(id, lits, learnt.first, rest)?;
+    hold_derived(held, tracer, lits, flags, learnt.first, rest)?;
     Ok(())
 }

@@ -38,8 +38,8 @@ pub(crate) fn reduce_if_due<T: Tracer>(
         return;
     }
     reductions.left -= 1;
-    reductions.since = held.arena().given();
     reduce(held, tracer, reductions.first);
+    reductions.since = held.arena().given();
 }
 
 /// Lets the worse half of the learnt clauses go that are held from an id on, but for those that are reasons.

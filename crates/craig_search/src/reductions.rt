@@ -1,14 +1,14 @@
 //! What a search counts of its reductions.
 ghost use Rattle.std.specs.Prelude.{◌≡◌};
 
-/// Which clauses a search may let go, and how often it may do so still.
+/// Which clauses a search may let go, and how often it may do so or derive unit clauses still.
 #[derive(Drop)]
 pub(crate) struct Reductions {
     /// The id of the first clause that the search learns.
     pub first: u64,
-    /// The id of the first clause that it learns after the last reduction.
+    /// The id of the first clause that it learns after it last let clauses go or derived unit clauses.
     pub since: u64,
-    /// How many reductions may come. There is a bound so that the search ends.
+    /// How often it may do either still. There is a bound so that the search ends.
     pub left: u64,
 }
 

@@ -15,7 +15,7 @@ use crate::settling::{answer_for, root_of, units_of};
 use craig_base::{ClauseId, Flags, Lit, Lits, Normal, Part, normal};
 use craig_order::Order;
 use craig_proof::Tracer;
-use craig_search::{Bar, may_go, search};
+use craig_search::{Bar, Workspace, may_go, search};
 use craig_watch::Held;
 use std::alloc::{AllocError, Global};
 
@@ -42,6 +42,8 @@ pub(crate) struct State<T: Tracer> {
     pub(crate) units: u64,
     // when learnt clauses are let go
     pub(crate) schedule: Schedule,
+    // what a search keeps for the next one
+    pub(crate) workspace: Workspace,
 }
 
 impl<T: Tracer> State<T> {
@@ -65,6 +67,7 @@ impl<T: Tracer> State<T> {
             root: None,
             units: 0,
             schedule: Schedule::new(),
+            workspace: Workspace::new(alloc),
         }
     }
 
@@ -162,7 +165,9 @@ impl<T: Tracer> State<T> {
         self.forget_root();
         let held = &mut self.held;
         let order = &mut self.order;
-        let verdict = search(alloc, held, order, &mut self.tracer, assumptions, limit)?;
+        let tracer = &mut self.tracer;
+        let workspace = &mut self.workspace;
+        let verdict = search(alloc, held, order, tracer, workspace, assumptions, limit)?;
         self.root = root_of(&verdict);
         self.units = units_of(&verdict);
         answer_for(alloc, held, order, verdict)

@@ -9,8 +9,8 @@ use Rattle.craig_search.specs.Searching.{IsJournal, IsSearching}
 use Rattle.craig_search.proofs.MeasureLemmas.{turns_with}
 use Rattle.craig_search.proofs.conflict_driven.run.Given as goal
 
-abbrev pub invariant-loop-held : goal.invariant-loop-held
-invariant-loop-held g l = record {
+abbrev pub invariant-turns : goal.invariant-turns
+invariant-turns g l = record {
   searching : IsSearching l.initial.held l.held (g.T.Tracer.told l.initial.tracer) (g.T.Tracer.told l.tracer);
   ready : IsReady l.held l.order;
   covers : IsCovering (g.T.Tracer.told l.tracer) (held_clause l.held.arena) l.held.arena.given;
@@ -27,5 +27,5 @@ invariant-loop-held g l = record {
   given : l.reductions.since ≤ l.held.arena.given;
 }
 
-abbrev pub decreases-loop-held : goal.decreases-loop-held
-decreases-loop-held g l = turns_with l.reductions.left l.reductions.since l.held
+abbrev pub decreases-turns : goal.decreases-turns
+decreases-turns g l = turns_with l.reductions.left l.reductions.since l.held

@@ -61,8 +61,8 @@ returns-in-Refuted-clause-searched g c =
       told = λ t u is also. subst (λ (places : List ℕ). Tells (held_clause start.arena) start.arena.given (IsUnitId root places) t u × IsRoot end assumptions root places t u) (sym c.none.ensures) (refuted-told start last end root _ by_then _ assumptions t u outcome.consistent.arena search empty is also);
     }
 
-pub returns-in-Failed-clause-searched : goal.returns-in-Failed-clause-searched
-returns-in-Failed-clause-searched g c =
+pub returns-in_ok-failure-in-Failed-clause-searched : goal.returns-in_ok-failure-in-Failed-clause-searched
+returns-in_ok-failure-in-Failed-clause-searched g c =
     let start = c.args.held.now in
     let end = c.run.new.held in
     let mid : HeldView = record end { trail = part_up_to 0 end.trail; level = 0 } in
@@ -82,8 +82,8 @@ returns-in-Failed-clause-searched g c =
       told = λ t u is also. failed-told start mid new assumptions _ _ _ _ _ t u search f outcome.consistent.arena (c.in_ok-failure-in-Failed.ensures.covers u also) is also;
     }
 
-pub returns-clause-searched : goal.returns-clause-searched
-returns-clause-searched g c =
+pub returns-in-Limited-clause-searched : goal.returns-in-Limited-clause-searched
+returns-in-Limited-clause-searched g c =
     let start = c.args.held.now in
     let end = c.run.new.held in
     let after = g.T.Tracer.told c.run.new.tracer in

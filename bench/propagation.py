@@ -36,6 +36,35 @@ from random_circuits import copy_of_crates
 
 STRIDE = 7919
 
+READER = r"""// The number of four bytes at the front, the lowest first, and what is behind it.
+fn first_number(bytes: &[u8]) -> (u32, &[u8]) {
+    if bytes.len() < 4 {
+        return (0, bytes);
+    }
+    let (head, rest) = bytes.split_at(4);
+    (u32::from_le_bytes([head[0], head[1], head[2], head[3]]), rest)
+}
+
+// The literal of a code: twice the variable, and one more where it is negated.
+fn literal_of(code: u32) -> Lit {
+    Lit::new(Var(code / 2), code % 2 == 1)
+}
+
+// Reads a clause: the number of its literals, and their codes.
+fn first_clause(alloc: Global, bytes: &[u8]) -> Result<(Vec<Lit>, &[u8]), AllocError> {
+    let (length, behind) = first_number(bytes);
+    let mut rest = behind;
+    let mut literals = Vec::new(alloc);
+    for _ in 0..length {
+        let (code, behind) = first_number(rest);
+        literals.push(literal_of(code))?;
+        rest = behind;
+    }
+    Ok((literals, rest))
+}
+
+"""
+
 PROGRAM = r"""//! Drives held clauses through a series of decisions, and prints counts, nanoseconds and memory.
 #![tactic(auto)]
 
@@ -75,34 +104,7 @@ fn hold_one(alloc: Global, held: &mut Held, literals: &[Lit]) -> Result<(), Allo
     Ok(())
 }
 
-// The number of four bytes at the front, the lowest first, and what is behind it.
-fn first_number(bytes: &[u8]) -> (u32, &[u8]) {
-    if bytes.len() < 4 {
-        return (0, bytes);
-    }
-    let (head, rest) = bytes.split_at(4);
-    (u32::from_le_bytes([head[0], head[1], head[2], head[3]]), rest)
-}
-
-// The literal of a code: twice the variable, and one more where it is negated.
-fn literal_of(code: u32) -> Lit {
-    Lit::new(Var(code / 2), code % 2 == 1)
-}
-
-// Reads a clause: the number of its literals, and their codes.
-fn first_clause(alloc: Global, bytes: &[u8]) -> Result<(Vec<Lit>, &[u8]), AllocError> {
-    let (length, behind) = first_number(bytes);
-    let mut rest = behind;
-    let mut literals = Vec::new(alloc);
-    for _ in 0..length {
-        let (code, behind) = first_number(rest);
-        literals.push(literal_of(code))?;
-        rest = behind;
-    }
-    Ok((literals, rest))
-}
-
-// Holds the clauses of the bytes: the number of variables, that of clauses, and the clauses.
+[READER]// Holds the clauses of the bytes: the number of variables, that of clauses, and the clauses.
 fn load(alloc: Global, held: &mut Held, bytes: &[u8]) -> Result<(), AllocError> {
     let (vars, behind) = first_number(bytes);
     let (count, behind) = first_number(behind);
@@ -382,7 +384,7 @@ def build_ours(folder):
     """The program over `Held`, proved and built; some minutes where nothing is kept."""
     crate = copy_of_crates(folder, "propagation", ["anyhow", "craig_base", "craig_watch"])
     with open(os.path.join(crate, "src", "main.rt"), "w") as out:
-        out.write(PROGRAM.replace("[STRIDE]", str(STRIDE)))
+        out.write(PROGRAM.replace("[STRIDE]", str(STRIDE)).replace("[READER]", READER))
     # a check keeps what it proved, which a run by itself doesn't before it ends
     subprocess.run(["rt", "check"], cwd=crate, stdout=subprocess.DEVNULL, stderr=subprocess.DEVNULL)
     run = subprocess.run(["rt", "run"], cwd=crate, capture_output=True, text=True)

@@ -1,68 +1,20 @@
 -- What the variables of a circuit have, one after another, and the shape of a strict circuit.
-use Rattle.std.proofs.Common.{◌≡◌, ◌∙◌, sym, ap, refl, inl, inr, ℕ, suc, ◌+◌, ◌*◌, ◌/◌, ◌%◌, ◌<◌, ◌≤◌, Bool, true, false, not, ◌&&◌, ◌||◌, ◌==◌, cond, List, [], ◌∷◌, ◌++◌, length, map, take, drop, get_or, Contains, All, Some, slice_get, arith, eqb, eqb-true, eq-eqb, length-append, length-take-le}
-use Rattle.std.specs.List.{fold, list_any}
-use Rattle.std.proofs.Math.Seq.{drop-cons}
+use Rattle.std.proofs.Common.{◌≡◌, ◌∙◌, sym, ap, refl, inl, inr, ℕ, suc, ◌+◌, ◌*◌, ◌/◌, ◌%◌, ◌<◌, ◌≤◌, Bool, true, false, not, ◌&&◌, ◌||◌, ◌==◌, cond, List, [], ◌∷◌, ◌++◌, length, map, take, drop, get_or, Contains, All, Some, slice_get, arith, eqb, eqb-true, eq-eqb, length-take-le}
+use Rattle.std.specs.List.{list_any}
 use Rattle.std.proofs.lemmas.Bool.{cases_order, or_cases, or_left, or_right}
-use Rattle.std.proofs.lemmas.List.{get_or_append_left, get_or_at, get_or-map, length-map, take-append-drop}
+use Rattle.std.proofs.lemmas.List.{get_or-map, length-map}
 use Rattle.std.proofs.lemmas.List.Elements.{All-contains, Contains-get_or}
-use Rattle.std.proofs.lemmas.List.Sums.{fold-append}
 use Rattle.std.proofs.lemmas.Option.{get_or_from_slice_get}
 use Rattle.craig_spec.specs.Circuit.{Circuit, Gate, Output, HasOperands, IsCircuit, IsStrict, circuit_cone, circuit_cones, circuit_value, circuit_values, each_variable, gate_cone, gate_value, literal_value_in, variable_count}
 use Rattle.craig_spec.specs.Truth.{Assignment, variable_value}
+use Rattle.craig_spec.proofs.VariableLemmas.{even_value, gates-around, get_or-before, get_or-first, get_or-gate}
 use Rattle.craig_spec.proofs.MemberLemmas.{Contains-from_slice_get, list_any-find, list_any-member, slice_get-below}
 use Rattle.craig_top.specs.CircuitShape.{AllAreUsed, GatesAreConjunctions, GatesReachByOperands, GatesStandOnce, InputsAreVariables, IsUsed, NumbersRise, OperandsAreOrdered, OutputsAreLiterals}
-
--- ---- what each variable has
-
--- one gate more
-abbrev step : {T : Type 0} → (List T → Gate → T) → List T → Gate → List T
-step f before g = before ++ f before g ∷ []
-
-length-steps : {T : Type 0} (f : List T → Gate → T) (before : List T) (gates : List Gate) → length (fold (step f) before gates) ≡ length before + length gates
-length-steps f before [] = omega arith
-length-steps f before (g ∷ gates) =
-    let rest : length (fold (step f) (step f before g) gates) ≡ length (step f before g) + length gates = length-steps f (step f before g) gates in
-    let one : length (step f before g) ≡ length before + length (f before g ∷ []) = length-append before (f before g ∷ []) in
-    omega (arith, rest, one)
-
-get_or-steps : {T : Type 0} (f : List T → Gate → T) (before : List T) (gates : List Gate) (i : ℕ) (d : T) → i < length before → get_or (fold (step f) before gates) i d ≡ get_or before i d
-get_or-steps f before [] i d h = refl
-get_or-steps f before (g ∷ gates) i d h =
-    let one : length (step f before g) ≡ length before + length (f before g ∷ []) = length-append before (f before g ∷ []) in
-    get_or-steps f (step f before g) gates i d (omega arith) ∙ get_or_append_left before (f before g ∷ []) d i h
-
-get_or-first : {T : Type 0} (f : List T → Gate → T) (first : List T) (gates : List Gate) (i : ℕ) (d : T) → i < length first → get_or (each_variable f first gates) i d ≡ get_or first i d
-unfolding each_variable
-get_or-first f first gates i d h = get_or-steps f first gates i d h
-
-get_or-before : {T : Type 0} (f : List T → Gate → T) (first : List T) (front : List Gate) (g : Gate) (back : List Gate) (i : ℕ) (d : T) → i < length first + length front → get_or (each_variable f first (front ++ g ∷ back)) i d ≡ get_or (each_variable f first front) i d
-unfolding each_variable
-get_or-before f first front g back i d h =
-    let within : i < length (fold (step f) first front) = omega (arith, length-steps f first front) in
-    rw (fold-append (step f) first front (g ∷ back)) (get_or-steps f (fold (step f) first front) (g ∷ back) i d within)
-
-get_or-gate : {T : Type 0} (f : List T → Gate → T) (first : List T) (front : List Gate) (g : Gate) (back : List Gate) (i : ℕ) (d : T) → i ≡ length first + length front → get_or (each_variable f first (front ++ g ∷ back)) i d ≡ f (each_variable f first front) g
-unfolding each_variable
-get_or-gate f first front g back i d is =
-    let l : length (fold (step f) first front) ≡ i = length-steps f first front ∙ sym is in
-    let one : length (step f (fold (step f) first front) g) ≡ length (fold (step f) first front) + length (f (fold (step f) first front) g ∷ []) = length-append (fold (step f) first front) (f (fold (step f) first front) g ∷ []) in
-    rw (fold-append (step f) first front (g ∷ back)) (get_or-steps f (step f (fold (step f) first front) g) back i d (omega (arith, l, one)) ∙ get_or_at (fold (step f) first front) (f (fold (step f) first front) g) [] d i l)
-
--- the gates before the one at a place and behind it
-gates-around : (gates : List Gate) (j : ℕ) (g : Gate) → slice_get gates j ≡ Some g → gates ≡ take j gates ++ g ∷ drop (suc j) gates
-gates-around gates j g is =
-    sym (take-append-drop j gates) ∙ ap (λ z. take j gates ++ z) (drop-cons gates j g (slice_get-below gates j g is)) ∙ ap (λ h. take j gates ++ h ∷ drop (suc j) gates) (get_or_from_slice_get gates j g g is)
 
 -- ---- values
 
 abbrev signed : ℕ → Bool → Bool
 signed remainder b = cond (remainder == 1) (not b) b
-
-even_literal : (values : List Bool) (v : ℕ) → literal_value_in values (2 * v) ≡ get_or values v false
-even_literal values v =
-    let r : (2 * v) % 2 ≡ 0 = omega arith in
-    let q : (2 * v) / 2 ≡ v = omega arith in
-    ap (λ n. signed n (get_or values ((2 * v) / 2) false)) r ∙ ap (λ n. get_or values n false) q
 
 odd_literal : (values : List Bool) (v : ℕ) → literal_value_in values (2 * v + 1) ≡ not (get_or values v false)
 odd_literal values v =
@@ -81,7 +33,7 @@ pub one_reaches_none : (c : Circuit) → circuit_cone c 1 ≡ []
 one_reaches_none c = get_or-first gate_cone ([] ∷ map (λ y. y ∷ []) c.inputs) c.gates 0 [] (omega arith)
 
 pub odd_negates : (c : Circuit) (s : Assignment) (v : ℕ) → circuit_value s c (2 * v + 1) ≡ not (circuit_value s c (2 * v))
-odd_negates c s v = odd_literal (circuit_values s c.inputs c.gates) v ∙ ap not (sym (even_literal (circuit_values s c.inputs c.gates) v))
+odd_negates c s v = odd_literal (circuit_values s c.inputs c.gates) v ∙ ap not (sym (even_value (circuit_values s c.inputs c.gates) v))
 
 half : (v : ℕ) → (2 * v) / 2 ≡ v
 half v = omega arith
@@ -89,7 +41,7 @@ half v = omega arith
 pub inputs_are_variables : (c : Circuit) → InputsAreVariables c
 inputs_are_variables c i x is = (
   λ s.
-      even_literal (circuit_values s c.inputs c.gates) (1 + i)
+      even_value (circuit_values s c.inputs c.gates) (1 + i)
       ∙ get_or-first gate_value (false ∷ map (variable_value s) c.inputs) c.gates (1 + i) false (let n : length (map (variable_value s) c.inputs) ≡ length c.inputs = length-map c.inputs (variable_value s) in omega (arith, within, n))
       ∙ shifted (variable_value s x) false (map (variable_value s) c.inputs) (get_or-map (variable_value s) c.inputs i x false within ∙ ap (variable_value s) at),
   ap (λ n. get_or (circuit_cones c.inputs c.gates) n []) (half (1 + i))
@@ -128,7 +80,7 @@ gates_are_conjunctions c circuit j g is s =
     let firsts : length first ≡ 1 + length c.inputs = omega (arith, count) in
     let before : List Bool = each_variable gate_value first (take j c.gates) in
     let below = circuit.operands j g is in
-    even_literal (circuit_values s c.inputs c.gates) (1 + length c.inputs + j)
+    even_value (circuit_values s c.inputs c.gates) (1 + length c.inputs + j)
     ∙ at_gate gate_value first false c circuit firsts j g is
     ∙ ap (λ b. signed (g.left % 2) b && literal_value_in before g.right) (at_operand gate_value first false c circuit firsts j g is (g.left / 2) below.0)
     ∙ ap (λ b. circuit_value s c g.left && signed (g.right % 2) b) (at_operand gate_value first false c circuit firsts j g is (g.right / 2) below.1)

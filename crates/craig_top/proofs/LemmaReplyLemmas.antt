@@ -14,12 +14,11 @@ use Rattle.std.proofs.lemmas.List.Sorted.{Contains-permutation, IsPermutation-ma
 use Rattle.std.proofs.lemmas.Map.Keys.{IsDistinct-IsPermutation, IsStrictlyIncreasing-from_distinct}
 use Rattle.std.proofs.lemmas.Map.Made.{IsDistinct-from_AllPairs}
 use Rattle.std.proofs.lemmas.Map.Views.{any-filter_same}
-use Rattle.craig_spec.specs.Literal.{Literal, Clause, negation}
+use Rattle.craig_spec.specs.Literal.{Literal, Clause}
 use Rattle.craig_spec.specs.Truth.{Assignment, IsModel, Implies, clause_value, variable_value}
 use Rattle.craig_spec.specs.Occurs.{Occurs, occurs_in_clause}
 use Rattle.craig_spec.specs.Chain.{SameLiterals}
 use Rattle.craig_base.specs.Clauses.{IsNormal, IsTautology}
-use Rattle.craig_base.proofs.LiteralsLemmas.{negation-from_differs}
 use Rattle.craig_base.specs.LemmaRule.{ContainsClause, NoneMoreThanTwice, MeetsLemmaRule}
 use Rattle.craig_top.specs.LemmaReply.{IsNamedLemma, AreNamedLemmas}
 use Rattle.craig_top.specs.Named.{AreDifferent}
@@ -27,7 +26,7 @@ use Rattle.craig_top.specs.Naming.{named_literal, named_clause}
 use Rattle.craig_top.specs.Values.{IsOver, AreOver}
 use Rattle.craig_spec.proofs.ClauseLemmas.{SameLiterals-sym, SameLiterals-trans, clause_value-same, occurs_in_clause-find, occurs_in_clause-member}
 use Rattle.craig_spec.proofs.MemberLemmas.{Contains-image, Contains-from_image, list_all-member, list_all-members, list_any-member, map-map}
-use Rattle.craig_base.proofs.ClausesLemmas.{IsTautology-SameLiterals}
+use Rattle.craig_base.proofs.ClausesLemmas.{IsTautology-SameLiterals, vars_apart-IsNormal}
 use Rattle.craig_top.proofs.DenseLemmas.{Agrees, clause_value-named}
 use Rattle.craig_top.proofs.NamedChainLemmas.{AreDifferent-from_IsDistinct, Contains-from_named}
 use Rattle.craig_top.proofs.NamedRefutationLemmas.{not_tautology-named}
@@ -181,18 +180,12 @@ names_apart names differ c over apart i j d before within same =
     apart i j none before inside
     (differ (get_or c i none).var (get_or c j none).var (below i earlier) (below j inside) (sym (get_or-map name c i none d earlier) ∙ same ∙ get_or-map name c j none d inside))
 
--- in a normal clause no variable stands twice
-apart-normal : (c : Clause) → IsNormal c → AllPairs (λ l m. l.var ≢ m.var) c
-apart-normal c normal i j d before within e =
-    let n : negation (get_or c i d) ≡ get_or c j d = negation-from_differs (get_or c i d) (get_or c j d) e (normal.distinct i j d before within) in
-    normal.not_tautology (get_or c i d, Contains-get_or c i d (omega arith), subst (Contains c) (sym n) (Contains-get_or c j d within))
-
 -- a printed lemma that is normal has each variable once, by rising variable
 pub named-rising : (names : List ℕ) (dense named : Clause) → IsDistinct nat_eq names → IsOver (length names) dense → IsNormal dense → IsNamedLemma names dense named → IsStrictlyIncreasing (map (λ (l : Literal). l.var) named)
 named-rising names dense named distinct over normal is =
     let apart : AllPairs (λ x y. x ≢ y) (map (λ (l : Literal). l.var) (named_clause names dense)) =
     subst (λ (xs : List ℕ). AllPairs (λ x y. x ≢ y) xs) (sym (map-map (λ (l : Literal). l.var) (named_literal names) dense))
-    (names_apart names (AreDifferent-from_IsDistinct names distinct) dense over (apart-normal dense normal)) in
+    (names_apart names (AreDifferent-from_IsDistinct names distinct) dense over (vars_apart-IsNormal dense normal)) in
     IsStrictlyIncreasing-from_distinct (map (λ (l : Literal). l.var) named) is.sorted
     (IsDistinct-IsPermutation nat_eq nat_eq_equiv.symm (map (λ (l : Literal). l.var) (named_clause names dense)) (map (λ (l : Literal). l.var) named)
     (IsPermutation-map (λ (l : Literal). l.var) (named_clause names dense) named is.permuted)

@@ -1,4 +1,3 @@
-pub mod AppendedLemmas
 pub mod ValueLemmas
 pub mod NamingLemmas
 pub mod BelowLemmas

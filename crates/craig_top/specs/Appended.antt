@@ -1,12 +1,5 @@
--- Bytes that only grow at their end.
+-- Texts that come behind what was there.
 use Rattle.std.specs.Prelude.{◌≡◌, ℕ, List, ◌++◌}
-
--- what was there stands in front still
-pub record AppendsOnly (old new : List ℕ) : Type 0 where
-  -- the bytes that came
-  pub text : List ℕ
-  -- they stand behind those that were there
-  pub behind : new ≡ old ++ text
 
 -- a text with the property came behind what was there
 abbrev pub AppendsText : (old new : List ℕ) → (List ℕ → Type 0) → Type 0

@@ -1,7 +1,7 @@
 //! The reply to a `solve` that met the conflict limit: the learnt clauses under the names of the script.
 
 ghost use Rattle.std.specs.Prelude.{◌≡◌, length, IfOk, OnOk};
-ghost use Rattle.craig_top.specs.Appended.{AppendsOnly};
+ghost use Rattle.craig_spec.specs.Appended.{AppendsOnly};
 ghost use Rattle.craig_top.specs.LemmaReply.{AppendsLemmas, IsNamedLemma};
 ghost use Rattle.craig_top.specs.Naming.{named_clause};
 ghost use Rattle.craig_top.specs.Values.{AreOver, IsOver};

@@ -4,7 +4,7 @@ ghost use Rattle.std.specs.Prelude.{◌≡◌, ◌≤◌, ◌+◌, ◌++◌, All
 ghost use Rattle.craig_aiger.specs.AsciiText.{aag_text};
 ghost use Rattle.craig_aiger.specs.BinaryText.{aig_text};
 ghost use Rattle.craig_cnf.specs.LayoutClauses.{layout_text};
-ghost use Rattle.craig_top.specs.Appended.{AppendsOnly};
+ghost use Rattle.craig_spec.specs.Appended.{AppendsOnly};
 ghost use Rattle.craig_top.specs.Blocks.{lined_bytes};
 ghost use Rattle.craig_top.specs.Formats.{ReadsBack, ascii_format, binary_format, clause_format, format_of};
 ghost use Rattle.craig_top.specs.ReplyTexts.{literal_text, literals_text, failed_text, lemma_text, unknown_line, satisfiable_text, ok_text, refusal_text};

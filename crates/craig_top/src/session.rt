@@ -1,7 +1,8 @@
 //! A session: one reply for each line, and the state that the lines so far have left.
 
 ghost use Rattle.std.specs.Prelude.{◌≡◌, ◌≢◌, ℕ, ◌++◌, true, false, List, OnOk, OnErr, IsErr, Some};
-ghost use Rattle.craig_top.specs.Appended.{AppendsOnly, AppendsText};
+ghost use Rattle.craig_spec.specs.Appended.{AppendsOnly};
+ghost use Rattle.craig_top.specs.Appended.{AppendsText};
 
 use crate::settings::Settings;
 use crate::stored::Stored;

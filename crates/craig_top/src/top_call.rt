@@ -38,7 +38,8 @@ pub fn craig_top<R: Source, W: Sink>(
     ensures usage { result ≡ Status.Usage → words_read (map (λ word. string_bytes word) words.now) ≡ None }
     ensures refused { words_read (map (λ word. string_bytes word) words.now) ≡ None → (result ≡ Status.Usage) ⊎ (result ≡ Status.NoMemory) }
     ensures untouched { words_read (map (λ word. string_bytes word) words.now) ≡ None → (source.new ≡ source.old) × (sink.new ≡ sink.old) }
-    ensures unread { (given : Words) (steps : ℕ) → words_read (map (λ word. string_bytes word) words.now) ≡ Some given → given.steps ≡ Some steps → source.new ≡ source.old }
+    ensures unread { (given : Words) (steps : ℕ) → words_read (map (λ word. string_bytes word) words.now) ≡ Some given
+        → given.steps ≡ Some steps → source.new ≡ source.old }
     ensures read_fault { CountsFaults (result ≡ Status.ReadFault) (R.faults source.old) (R.faults source.new) }
     ensures write_fault { CountsFaults (result ≡ Status.WriteFault) (W.faults sink.old) (W.faults sink.new) }
     ensures complete { (given : Words) → words_read (map (λ word. string_bytes word) words.now) ≡ Some given

@@ -7,7 +7,7 @@ ghost use Rattle.craig_base.specs.declared.script_part.Part.{Part};
 ghost use Rattle.craig_search.specs.Verdict.{units};
 ghost use Rattle.craig_spec.specs.Literal.{Clause};
 ghost use Rattle.craig_spec.specs.Truth.{IsModel};
-ghost use Rattle.craig_top.specs.Appended.{AppendsOnly};
+ghost use Rattle.craig_spec.specs.Appended.{AppendsOnly};
 ghost use Rattle.craig_top.specs.Sides.{AreSidesOf, parted};
 ghost use Rattle.craig_top.specs.StoredReplies.{AppendsModel};
 ghost use Rattle.craig_top.specs.Values.{AreOver, IsOver};

@@ -33,7 +33,15 @@ fn root(
     requires known { All (λ a. a.1.var < held.old.vars) assumptions.now }
 {
     let mut workspace = Workspace::new(alloc);
-    let verdict = search(alloc, held, order, &mut Silent, &mut workspace, assumptions, None)?;
+    let verdict = search(
+        alloc,
+        held,
+        order,
+        &mut Silent,
+        &mut workspace,
+        assumptions,
+        None,
+    )?;
     let Verdict::Failed { root, places } = verdict else {
         return Ok(None);
     };
@@ -159,7 +167,15 @@ fn is_refuted_by_propagation(
     held.hold(&[v0], FLAGS)?;
     held.hold(&[v0.not()], FLAGS)?;
     let mut workspace = Workspace::new(alloc);
-    let verdict = search(alloc, held, order, &mut Silent, &mut workspace, &[], Some(1))?;
+    let verdict = search(
+        alloc,
+        held,
+        order,
+        &mut Silent,
+        &mut workspace,
+        &[],
+        Some(1),
+    )?;
     Ok(matches!(verdict, Verdict::Failed { .. }))
 }
 
@@ -183,7 +199,15 @@ fn learns_lemma(alloc: Global, held: &mut Held, order: &mut Order) -> Result<boo
     held.hold(&[v0, v1.not()], FLAGS)?;
     let assumed = [(Part(1), v0.not())];
     let mut workspace = Workspace::new(alloc);
-    let verdict = search(alloc, held, order, &mut Silent, &mut workspace, &assumed, Some(1))?;
+    let verdict = search(
+        alloc,
+        held,
+        order,
+        &mut Silent,
+        &mut workspace,
+        &assumed,
+        Some(1),
+    )?;
     let Verdict::Limit(lemmas) = verdict else {
         return Ok(false);
     };

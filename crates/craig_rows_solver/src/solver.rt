@@ -4,6 +4,7 @@
 //! short.
 ghost use Rattle.std.specs.Prelude.{◌≡◌, ◌+◌, ◌<◌, ◌≤◌, All, OnOk};
 
+use crate::counting::Counting;
 use craig_base::{ClauseId, Lit, Part, Var};
 use craig_proof::{ChainStore, Silent, Tracer};
 use craig_solver::{Answer, Solver};
@@ -11,7 +12,7 @@ use std::alloc::{AllocError, Global};
 use std::test::Fail;
 
 /// Makes the variables below the number known.
-fn reach<T: Tracer>(solver: &mut Solver<T>, vars: u32) -> Result<(), AllocError>
+pub(crate) fn reach<T: Tracer>(solver: &mut Solver<T>, vars: u32) -> Result<(), AllocError>
     requires { vars ≤ 2147483648 }
     ensures { OnOk result (vars ≤ solver.new.vars) }
 {
@@ -225,5 +226,62 @@ fn are_refuted_after_lemmas(solver: &mut Solver<Silent>) -> Result<bool, AllocEr
 fn pigeons_are_refuted_after_lemmas(rt: HostRuntime) -> Result<(), Fail> {
     let mut solver = Solver::new(rt.alloc(), Silent);
     assert!(rt; are_refuted_after_lemmas(&mut solver)?);
+    Ok(())
+}
+
+/// Adds a clause that forces a literal from the one before it.
+fn add_implication(solver: &mut Solver<Counting>, var: u32) -> Result<(), AllocError>
+    requires known { var + 1 < solver.old.vars }
+    requires few { var < 4 }
+    ensures { solver.new.vars ≡ solver.old.vars }
+{
+    let implied = Lit::new(Var(var + 1), false);
+    solver.add(Part(2), &[Lit::new(Var(var), true), implied])
+}
+
+/// Adds a clause of one literal and clauses that force the others from it, one after another.
+fn add_implications(solver: &mut Solver<Counting>) -> Result<(), AllocError>
+    ensures { OnOk result (5 ≤ solver.new.vars) }
+{
+    reach(solver, 5)?;
+    solver.add(Part(1), &[Lit::new(Var(0), false)])?;
+    add_implication(solver, 0)?;
+    add_implication(solver, 1)?;
+    add_implication(solver, 2)?;
+    add_implication(solver, 3)
+}
+
+/// What was told, where there is a model.
+fn counted(solver: &mut Solver<Counting>) -> Result<Option<Counting>, AllocError>
+    ensures { solver.new.vars ≡ solver.old.vars }
+{
+    let Answer::Model(_) = solver.solve(&[], None)? else {
+        return Ok(None);
+    };
+    Ok(Some(*solver.tracer()))
+}
+
+/// Whether the literals that clauses force at level 0 get unit clauses, each told once by one step, so that a refutation
+/// behind them takes one step too.
+fn derives_units(solver: &mut Solver<Counting>) -> Result<bool, AllocError> {
+    add_implications(solver)?;
+    let told = Counting {
+        derived: 4,
+        longest: 1,
+        forgotten: 0,
+    };
+    let first = counted(solver)?;
+    let again = counted(solver)?;
+    solver.add(Part(1), &[Lit::new(Var(4), true)])?;
+    let last = solver.solve(&[], None)?;
+    let counts = *solver.tracer();
+    let refuted = matches!(last, Answer::Failed { .. }) && counts.derived == 5;
+    Ok(first == Some(told) && again == Some(told) && refuted && counts.longest == 1)
+}
+
+#[test]
+fn literals_of_level_0_get_unit_clauses(rt: HostRuntime) -> Result<(), Fail> {
+    let mut solver = Solver::new(rt.alloc(), Counting::new());
+    assert!(rt; derives_units(&mut solver)?);
     Ok(())
 }

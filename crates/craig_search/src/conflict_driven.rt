@@ -28,9 +28,10 @@ use std::alloc::{AllocError, Global};
 /// Literals are over dense variables, and an assumption is a literal with its part. The level is 0 at first, and the
 /// order knows the variables that are held and was given back all that are free. A tracer that tells its meaning covers
 /// the held clauses, and goes on doing so: it is told each learnt clause with its chain, the unit clause of each literal
-/// that a longer clause forces at level 0, and the empty clause for a refutation. Clauses that are not learnt stay as they are, and each new clause is learnt, follows from those that were
-/// held, and has variables of theirs alone. After `Model` the level stays as it is: the caller reads the values and goes
-/// back to level 0. After every other verdict the level is 0, and all free variables were given back again.
+/// that a longer clause forces at level 0, and the empty clause for a refutation. Clauses that are not learnt stay as they
+/// are, and each new clause is learnt, follows from those that were held, and has variables of theirs alone. After `Model`
+/// the level stays as it is: the caller reads the values and goes back to level 0. After every other verdict the level is
+/// 0, and all free variables were given back again.
 ///
 /// An `AllocError` comes only for want of memory. After it nothing is promised of what was lent but that its calls are
 /// safe, and that the same variables are known. Clauses whose memory was refused before are not searched.

@@ -159,6 +159,11 @@ IsCovering-forgotten before after f given id covers is none u at =
     let was = before_forgotten before after id u is at in
     subst (λ (v : Told). Covers v f given) (sym was.2) (Covers-forgotten was.0 f given id (covers was.0 was.1) none)
 
+-- an id that isn't forgotten stays where steps are given up
+pub IsUnforgotten-reclaimed : (t u : Told) (x : ℕ) → Reclaims t u → IsUnforgotten t.steps x → IsUnforgotten u.steps x
+IsUnforgotten-reclaimed t u x r alive =
+    subst (λ (steps : List ToldStep). IsUnforgotten steps x) (sym r.steps) (IsUnforgotten-left r.kept t.steps x (λ s here is. r.needed s x here alive (λ p root closed. subst (λ (n : ℕ). p n ≡ true) (sym is) root)) alive)
+
 -- steps are given up
 pub Covers-reclaimed : (t u : Told) (f : ℕ → Option Clause) (given : ℕ) → Covers t f given → Reclaims t u → Covers u f given
 Covers-reclaimed t u f given covers r =
@@ -170,8 +175,7 @@ Covers-reclaimed t u f given covers r =
       same = λ x c found.
           let told = covers.same x c found in
           (told.0, ap (λ (steps : List ToldStep). clause_told steps x) r.steps ∙ clause_told-left r.kept t.steps x (left x c found) ∙ told.1, told.2);
-      unforgotten = λ x c found.
-          subst (λ (steps : List ToldStep). IsUnforgotten steps x) (sym r.steps) (IsUnforgotten-left r.kept t.steps x (left x c found) (covers.unforgotten x c found));
+      unforgotten = λ x c found. IsUnforgotten-reclaimed t u x r (covers.unforgotten x c found);
     }
 
 pub IsCovering-reclaimed : (before after : Option Told) (f : ℕ → Option Clause) (given : ℕ) → IsCovering before f given → is_some after ≡ is_some before → ((t : Told) → before ≡ Some t → (u : Told) × (after ≡ Some u) × Reclaims t u) → IsCovering after f given

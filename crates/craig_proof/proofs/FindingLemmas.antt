@@ -307,7 +307,7 @@ IsFinding-done steps root set found rising empty finding =
     sym (only a) ∙ finding.closed w.0 a w.1 (rw is ante) in
     (was_found found, λ s here. (λ m. finding.needed s.id (only s.id ∙ m), λ needed. needed (was_found found) (sym (only root) ∙ finding.rooted) closed), ap (map unforgotten) finding.part)
 
-eqb_turned : (x y : ℕ) → eqb x y ≡ eqb y x
+pub eqb_turned : (x y : ℕ) → eqb x y ≡ eqb y x
 eqb_turned x y = grind (arith, eqb-true, eqb-false)
 
 stays-cases : (a e f w g : Bool) → e ≡ f → (w || g) ≡ true → ((a || (not e && w)) || (f || g)) ≡ true

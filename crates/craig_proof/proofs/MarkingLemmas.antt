@@ -20,12 +20,9 @@ use Rattle.craig_proof.specs.PackedSteps.{IsPackable, IsPackedChain}
 use Rattle.craig_proof.specs.Reclaiming.{AreMarkedFrom, AreSameRows, HasRow, HaveChains, IsInUse, MarksMore, AreAllInUse, is_marked, marked_steps, marked_unless_forgotten, unmarked}
 use Rattle.craig_proof.specs.StoredSteps.{AreRows, all_literals, bytes_of, no_step, steps_in}
 use Rattle.craig_proof.specs.declared.stored_step.StoredStep.{StoredStep}
-use Rattle.craig_proof.proofs.FindingLemmas.{BackMarks-alone, BackMarks-closed, BackMarks-first, BackMarks-mark, BackMarks-skip, HasId-antecedents, filter-same}
+use Rattle.craig_proof.proofs.FindingLemmas.{BackMarks-alone, BackMarks-closed, BackMarks-first, BackMarks-mark, BackMarks-skip, HasId-antecedents, eqb_turned, filter-same, or_moved}
 use Rattle.craig_proof.proofs.RowLemmas.{id_at, length-rows, read_stored, rising_stored, derived_lent, row_derived, row_original, row_packed}
 use Rattle.craig_proof.proofs.ToldLemmas.{has_place}
-
-eqb_turned : (x y : ℕ) → eqb x y ≡ eqb y x
-eqb_turned x y = grind (arith, eqb-true, Rattle.std.proofs.lemmas.Bool.eqb-false)
 
 -- a mark changes no row's step
 AreRows-unmarked : (l b : ℕ) (rows : List StoredStep) (steps : List ToldStep) → AreRows l b rows steps → AreRows l b (map unmarked rows) steps
@@ -146,19 +143,13 @@ pub record LeftToMark (start rows : List StoredStep) (all : List ℕ) (left : Li
   pub same : AreSameRows start rows
   pub marks : (x : ℕ) → (list_any (eqb x) (map (λ s. s.antecedent) left) || is_marked rows x) ≡ (list_any (eqb x) all || is_marked start x)
 
-swapped : (a e m : Bool) → (a || (e || m)) ≡ ((e || a) || m)
-swapped true true m = refl
-swapped true false m = refl
-swapped false true m = refl
-swapped false false m = refl
-
 -- the first antecedent is marked
 pub LeftToMark-first : (start rows : List StoredStep) (first : ℕ) (rest : List ChainStep) → AllPairs (λ r s. r.id.0 < s.id.0) start → All (HasRow start) (antecedents (Derived first rest)) → MarksMore (λ x. eqb x first) start rows → LeftToMark start rows (antecedents (Derived first rest)) rest
 LeftToMark-first start rows first rest rising have more = record {
   rising = rising-same start rows more.same rising;
   have = λ k d within. HasRow-same start rows _ more.same (have (suc k) d (omega arith));
   same = more.same;
-  marks = λ x. ap (λ m. list_any (eqb x) (map (λ s. s.antecedent) rest) || m) (more.marks x) ∙ swapped (list_any (eqb x) (map (λ s. s.antecedent) rest)) (eqb x first) (is_marked start x);
+  marks = λ x. ap (λ m. list_any (eqb x) (map (λ s. s.antecedent) rest) || m) (more.marks x) ∙ or_moved (list_any (eqb x) (map (λ s. s.antecedent) rest)) (eqb x first) (is_marked start x);
 }
 
 -- one more of the others is
@@ -167,7 +158,7 @@ LeftToMark-more start rows after all s left before more = record {
   rising = rising-same rows after more.same before.rising;
   have = λ k d within. HasRow-same rows after _ more.same (before.have (suc k) d (omega arith));
   same = more.same ∙ before.same;
-  marks = λ x. ap (λ m. list_any (eqb x) (map (λ s. s.antecedent) left) || m) (more.marks x) ∙ swapped (list_any (eqb x) (map (λ s. s.antecedent) left)) (eqb x s.antecedent) (is_marked rows x) ∙ before.marks x;
+  marks = λ x. ap (λ m. list_any (eqb x) (map (λ s. s.antecedent) left) || m) (more.marks x) ∙ or_moved (list_any (eqb x) (map (λ s. s.antecedent) left)) (eqb x s.antecedent) (is_marked rows x) ∙ before.marks x;
 }
 
 none_part : (part : Option Part) → is_some part ≡ false → part ≡ None

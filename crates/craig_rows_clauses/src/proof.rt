@@ -1,7 +1,8 @@
 //! Rows of `craig_proof`: a small refutation is told, kept and replayed.
-ghost use Rattle.std.specs.Prelude.{◌≡◌, Some, OnOk};
+ghost use Rattle.std.specs.Prelude.{◌≡◌, ◌≢◌, Contains, Some, OnOk};
 ghost use Rattle.std.specs.Option.{ForSome};
-ghost use Rattle.craig_spec.specs.Chain.{IsUnforgotten, Told, nothing_told};
+ghost use Rattle.craig_spec.specs.Chain.{IsUnforgotten, Told, ToldStep, nothing_told};
+ghost use Rattle.craig_rows_clauses.specs.Proof.{AreRefutationSteps};
 
 use crate::told_ids::ToldIds;
 use craig_base::{ClauseId, Lit, Part, Var};
@@ -25,6 +26,7 @@ fn tell_refutation<T: Tracer>(tracer: &mut T) -> Result<(), AllocError>
     requires { ForSome (T.told tracer.old) (λ t. t ≡ nothing_told) }
     ensures told { OnOk result (ForSome (T.told tracer.old) (λ _. (u : Told) × (T.told tracer.new ≡ Some u) × IsUnforgotten u.steps 3)) }
     ensures unforgotten { OnOk result (ForSome (T.told tracer.new) (λ u. IsUnforgotten u.steps 3)) }
+    ensures steps { OnOk result (ForSome (T.told tracer.new) (λ u. AreRefutationSteps u.steps)) }
 {
     let v0 = Lit::new(Var(0), false);
     let v5 = Lit::new(Var(5), false);
@@ -66,6 +68,42 @@ fn replay_leaves_out_what_the_root_does_not_need(rt: HostRuntime) -> Result<(), 
     let mut second = ChainStore::new(rt.alloc());
     store.replay(ClauseId(3), &mut second)?;
     assert!(rt; replays(rt.alloc(), &store, &[0, 1, 3])?);
+    Ok(())
+}
+
+/// Says that the three originals are done with, and lets go of what the empty clause doesn't need: the third of them.
+fn keep_refutation(store: &mut ChainStore)
+    requires { AreRefutationSteps store.old.told.steps }
+    ensures unforgotten { IsUnforgotten store.new.told.steps 3 }
+    ensures gone { (s : ToldStep) → Contains store.new.told.steps s → s.id ≢ 2 }
+{
+    store.forget(ClauseId(0));
+    store.forget(ClauseId(1));
+    store.forget(ClauseId(2));
+    store.reclaim();
+}
+
+#[test]
+fn reclaiming_keeps_the_forgotten_antecedents_of_the_root(rt: HostRuntime) -> Result<(), Fail> {
+    let mut store = ChainStore::new(rt.alloc());
+    tell_refutation(&mut store)?;
+    keep_refutation(&mut store);
+    assert!(rt; replays(rt.alloc(), &store, &[0, 1, 3])?);
+    Ok(())
+}
+
+/// The packed chain of the empty clause.
+fn packed_root(store: &ChainStore) -> &[u8]
+    requires { AreRefutationSteps store.now.told.steps }
+{
+    store.packed(ClauseId(3))
+}
+
+#[test]
+fn packed_chain_has_differences_of_ids(rt: HostRuntime) -> Result<(), Fail> {
+    let mut store = ChainStore::new(rt.alloc());
+    tell_refutation(&mut store)?;
+    assert_eq!(rt; packed_root(&store), [3, 0, 2].as_slice());
     Ok(())
 }
 

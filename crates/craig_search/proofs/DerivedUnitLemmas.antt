@@ -7,7 +7,6 @@ use Rattle.craig_spec.specs.Literal.{Literal, Clause, negation}
 use Rattle.craig_spec.specs.Chain.{ChainOk, IsResolvent, SameLiterals, Told}
 use Rattle.craig_spec.proofs.LiteralLemmas.{negation_twice}
 use Rattle.craig_spec.proofs.MemberLemmas.{Contains-cases, Contains-front, Contains-later, Contains-one}
-use Rattle.craig_base.specs.Clauses.{IsNormal}
 use Rattle.craig_base.specs.declared.clause_id.ClauseId.{ClauseId}
 use Rattle.craig_base.specs.declared.flags.Flags.{Flags}
 use Rattle.craig_base.specs.Arena.{ArenaView, ChangesOnly, FlaggedClause, IsLive, clause_at, literals_at}
@@ -30,9 +29,8 @@ use Rattle.craig_search.specs.Searching.{GoesOn, IsSearching}
 use Rattle.craig_search.specs.Units.{DerivesUnits, HasLiteral, IsResolvedAway}
 use Rattle.craig_search.specs.Verdict.{Assumptions}
 use Rattle.craig_search.proofs.AssumingLemmas.{decided-root}
-use Rattle.craig_search.proofs.LimitLemmas.{StayKept-refl, StayKept-trans}
+use Rattle.craig_search.proofs.LimitLemmas.{StayKept-trans}
 use Rattle.craig_search.proofs.SearchingLemmas.{IsSearching-moved}
-use Rattle.craig_search.proofs.UnitChainLemmas.{not-itself}
 
 -- the literal at a place of the trail is true
 pub true-at : (h : HeldView) (lits : Clause) (k : ℕ) (l : Literal) → IsConsistent h → lits ≡ map (λ e. e.literal) h.trail → k < length h.trail → l ≡ get_or lits k l → (value_under h.trail l ≡ True) × (l.var < h.vars)
@@ -131,30 +129,7 @@ chain-next a lits l m k first old new apart within at chain resolved =
 pub chain-ended : (a : ArenaView) (lits : Clause) (l : Literal) (k first : ℕ) (rest : List Step) → length lits ≤ k → ChainOk (held_clause a) (l ∷ drop k lits) first (chain_of rest) → ChainOk (held_clause a) (l ∷ []) first (chain_of rest)
 chain-ended a lits l k first rest all chain = subst (λ (d : Clause). ChainOk (held_clause a) (l ∷ d) first (chain_of rest)) (drop_all k lits all) chain
 
--- a clause of one literal is normal
-pub IsNormal-unit : (l : Literal) → IsNormal (l ∷ [])
-IsNormal-unit l = record {
-  distinct = λ i j d before within. absurd (omega arith);
-  not_tautology = λ (m, one, other). not-itself m (sym (Contains-one l m one) ∙ Contains-one l (negation m) other);
-}
-
--- nothing was derived
-pub DerivesUnits-none : (h : HeldView) (told : Option Told) → DerivesUnits h h told told
-DerivesUnits-none h told = record {
-  root = inr refl;
-  goes_on = λ start before search. search;
-  stay = StayKept-refl h.arena;
-  given = omega arith;
-  units = λ id c is. inl is;
-  vars = refl;
-  level = refl;
-  dead = refl;
-  assigned = refl;
-  variables = λ v. refl;
-  values = λ l. refl;
-}
-
--- and twice
+-- units were derived twice
 pub DerivesUnits-twice : (old mid new : HeldView) (told_old told_mid told_new : Option Told) → DerivesUnits old mid told_old told_mid → DerivesUnits mid new told_mid told_new → DerivesUnits old new told_old told_new
 DerivesUnits-twice old mid new told_old told_mid told_new one two = record {
   root = elim two.root [

@@ -126,7 +126,7 @@ not-cases : (b : Bool) → b ≡ not b → ⊥
 not-cases true e = let no : true ≡ false = e in cc
 not-cases false e = let no : false ≡ true = e in cc
 
-pub not-itself : (l : Literal) → l ≢ negation l
+not-itself : (l : Literal) → l ≢ negation l
 not-itself l e = not-cases l.negated (ap (λ (m : Literal). m.negated) e)
 
 pair-cases : (l m n : Literal) → (m ≡ l) ⊎ (m ≡ negation l) → (n ≡ l) ⊎ (n ≡ negation l) → m ≢ n → n ≡ negation m

@@ -2,8 +2,7 @@
 //! held, and is its reason from then on, so that each later chain resolves with it in one step.
 //!
 //! Pollitt, Fleury and Biere, "Faster LRAT Checking Than Solving with CaDiCaL", SAT 2023.
-ghost use Rattle.std.specs.Prelude.{◌≡◌, ◌<◌, ◌≤◌, ℕ, [], ◌∷◌, true, Some, IfOk, IfSome, OnOk, is_some, length};
-ghost use Rattle.craig_spec.specs.Literal.{negation};
+ghost use Rattle.std.specs.Prelude.{◌≡◌, ◌<◌, ◌≤◌, [], ◌∷◌, true, Some, IfOk, IfSome, OnOk, is_some, length};
 ghost use Rattle.craig_spec.specs.Chain.{ChainOk};
 ghost use Rattle.craig_proof.specs.Covers.{IsCovering};
 ghost use Rattle.craig_proof.specs.Tracer.{chain_of};

@@ -1,8 +1,8 @@
 //! A script from a source, answered line by line to a sink.
 //!
 //! What was read is cut into lines. Their replies are gathered, and put as soon as they have 65536 bytes and in any
-//! case before the next read and before the run ends. Between two reads the text put is a transcript of the lines whose
-//! newline was read: that is the invariant. How long a read or a write takes is not promised.
+//! case before the next read and before the run ends, unless a write failed. Between two reads the text put is a
+//! transcript of the lines whose newline was read: that is the invariant. How long a read or a write takes is not promised.
 
 ghost use Rattle.std.specs.Prelude.{◌≡◌, ◌≢◌, ℕ, ◌<◌, ◌≤◌, ◌+◌, List, [], false, length, vec_len, Option, Some, Err, OnOk, IfOk, IfErr, OnErr};
 ghost use Rattle.craig_script.specs.Lines.{fed, ended};
@@ -82,7 +82,6 @@ struct Run {
 
 impl Run {
     ghost use Rattle.std.specs.Prelude.{true};
-    ghost use Rattle.craig_script.specs.Lines.{LinesView};
     ghost use Rattle.craig_top.specs.Appended.{AppendsText};
     ghost use Rattle.craig_top.specs.Gathered.{Gathers};
     ghost use Rattle.craig_top.specs.GivenState.{next};

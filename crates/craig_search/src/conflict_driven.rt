@@ -132,7 +132,7 @@ fn run<T: Tracer>(
     'turns: loop {
         match held.propagate()? {
             None => {
-                derive_units(alloc, held, tracer, &mut workspace.walked, &mut reductions)?;
+                derive_units(alloc, held, tracer, workspace, &mut reductions)?;
                 place = first_open(held, assumptions, place);
                 match decide_next(held, order, assumptions, place) {
                     Turn::Decided => {}

@@ -12,6 +12,7 @@ ghost use Rattle.craig_watch.specs.Held.{IsConsistent, held_clause};
 ghost use Rattle.craig_search.specs.Reducing.{IsReduced};
 ghost use Rattle.craig_search.specs.Units.{DerivesUnits, HasLiteral, IsResolvedAway};
 
+use crate::Workspace;
 use crate::holding::hold_derived;
 use crate::reductions::Reductions;
 use craig_base::{ClauseId, Flags, Lit};
@@ -26,13 +27,13 @@ const UNIT: Flags = Flags {
     glue: 1,
 };
 
-/// Derives unit clauses of the literals at level 0 that came since the trail was walked up to a place. Where some came,
-/// clauses are counted anew, as after a reduction.
+/// Derives unit clauses of the literals at level 0 that came since the trail was last walked. Where some came, clauses are
+/// counted anew, as after a reduction.
 pub(crate) fn derive_units<T: Tracer>(
     alloc: Global,
     held: &mut Held,
     tracer: &mut T,
-    walked: &mut usize,
+    workspace: &mut Workspace,
     reductions: &mut Reductions,
 ) -> Result<(), AllocError>
     requires consistent { IsConsistent held.old }
@@ -46,13 +47,16 @@ pub(crate) fn derive_units<T: Tracer>(
     ensures kept { T.kept tracer.new ≡ T.kept tracer.old }
 {
     let end = held.trail().len();
-    if held.level() > 0 || *walked >= end || reductions.left == 0 {
+    if held.level() > 0 || workspace.walked >= end || reductions.left == 0 {
         return Ok(());
     }
-    derive_each(alloc, held, tracer, *walked, end)?;
-    *walked = end;
+    let first = held.arena().given();
+    derive_each(alloc, held, tracer, workspace.walked, end)?;
+    workspace.walked = end;
     reductions.left -= 1;
     reductions.since = held.arena().given();
+    let derived = reductions.since.saturating_sub(first);
+    workspace.units = workspace.units.saturating_add(derived);
     Ok(())
 }
 

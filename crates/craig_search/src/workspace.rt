@@ -13,6 +13,7 @@ use std::marker::Model;
 pub struct Workspace {
     pub(crate) analysis: Analysis,
     pub(crate) walked: usize,
+    pub(crate) units: u64,
 }
 
 impl Model for Workspace {
@@ -27,6 +28,12 @@ impl Workspace {
         Workspace {
             analysis: Analysis::new(alloc),
             walked: 0,
+            units: 0,
         }
+    }
+
+    /// How many unit clauses searches have derived with it, each of which is held for ever.
+    pub fn units(&self) -> u64 {
+        self.units
     }
 }

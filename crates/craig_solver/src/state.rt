@@ -182,7 +182,8 @@ impl<T: Tracer> State<T> {
         ensures kept { T.kept self.new.tracer ≡ T.kept self.old.tracer }
     {
         let given = self.held.arena().given();
-        let learnt = given.saturating_sub(self.held_ids.len() as u64);
+        let others = (self.held_ids.len() as u64).saturating_add(self.workspace.units());
+        let learnt = given.saturating_sub(others);
         if !self.schedule.is_due(learnt) {
             return;
         }

@@ -32,7 +32,7 @@ impl Workspace {
         }
     }
 
-    /// How many unit clauses searches have derived with it, each of which is held for ever.
+    /// How many unit clauses searches have derived with it. No answer depends on it.
     pub fn units(&self) -> u64 {
         self.units
     }

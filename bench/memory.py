@@ -9,9 +9,10 @@ chains, the bytes of these chains in packed form, and the literals. It makes the
 clause in each conflict beside those of unit clauses. MiniSat prints its conflicts.
 
 The memory is the largest resident set, as GNU `time` counts it, of PROGRAM with its proof kept and the outer cuts asked
-for, of MiniSat, which keeps no proof, and of PicoSAT with its trace on. The lists are those of `clause_lists.py` without a
-model; one that a solver doesn't refute in N seconds, 60 if not said, is left out. The last lines have the geometric means
-over the lists that take MiniSat 0.1 seconds or more. Nothing here is a test: it prints figures to compare in one run.
+for, of MiniSat, and of PicoSAT; neither keeps a proof, since PicoSAT of Debian 12 is built without its trace. The lists are
+those of `clause_lists.py` without a model; one that a solver doesn't refute in N seconds, 60 if not said, is left out. The
+last line has the geometric means over the lists that take MiniSat 0.1 seconds or more. Nothing here is a test: it prints
+figures to compare in one run.
 """
 
 import argparse
@@ -184,7 +185,7 @@ def main():
     given = options.parse_args()
     program = os.path.abspath(given.program)
     columns = ["list", "derived", "conflicts of minisat", "ratio", "steps", "bytes a step", "literals", "craig MB"]
-    print("| " + " | ".join(columns + ["minisat MB", "ratio", "picosat.trace -t MB", "ratio"]) + " |")
+    print("| " + " | ".join(columns + ["minisat MB", "ratio", "picosat MB", "ratio"]) + " |")
     print("|" + "---|" * (len(columns) + 4))
     conflicts, to_minisat, to_picosat = [], [], []
     with tempfile.TemporaryDirectory() as folder:
@@ -196,7 +197,7 @@ def main():
                 write_list(path, clauses)
                 minisat = Run(["minisat", dimacs], dimacs, given.seconds)
                 ours = solved(program, script, given.seconds)
-                picosat = Run(["picosat.trace", "-t", "/dev/null", dimacs], dimacs, given.seconds)
+                picosat = Run(["picosat", dimacs], dimacs, given.seconds)
                 if minisat.answer() is not False or ours.answer() is not False or picosat.answer() is not False:
                     continue
                 derived, steps, size, literals = map(int, subprocess.run([counter, path], capture_output=True, text=True, check=True).stdout.split())
@@ -210,7 +211,7 @@ def main():
                     to_picosat.append(ours.memory / picosat.memory)
                 print("| " + " | ".join(line) + " |", flush=True)
     print()
-    print("geometric means over %d lists: conflicts %.2f, memory to minisat %.2f, to picosat.trace -t %.2f" % (
+    print("geometric means over %d lists: conflicts %.2f, memory to minisat %.2f, to picosat %.2f" % (
         len(conflicts), geometric(conflicts), geometric(to_minisat), geometric(to_picosat)))
 
 
